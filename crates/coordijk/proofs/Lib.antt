@@ -1,0 +1,6 @@
+pub mod Reducing
+pub mod Taking
+pub mod Distance
+pub mod Turning
+pub mod Scaling
+pub mod Unique

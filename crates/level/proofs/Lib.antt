@@ -1,0 +1,4 @@
+pub mod Computed
+pub mod Sizes
+pub mod Taking
+pub mod Unique

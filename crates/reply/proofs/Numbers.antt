@@ -1,0 +1,55 @@
+-- Each refusal has a number of its own, and none has 0. Assumes nothing.
+use mathlib.Core.Path.{_≡_, refl, sym, ap, _∙_}
+use mathlib.Core.List.{List, [], _∷_}
+use Prim.Native.Nat.{ℕ, zero, suc, _<_}
+use native.Mathlib.Omega.{arith}
+use Rattle.reply.specs.declared.Refusal.{Refusal}
+use Rattle.reply.specs.declared.Refusal.the-variants.{BadFrame, BadRows, BadFace, BadLevel, BadRange, BadNumber, OffSphere, Behind, TooFar, NotReduced, OutOfFace, NotAdjacent, NoCrossing, BadLine}
+use Rattle.reply.specs.Replies.{numberOf}
+
+nth : List Refusal → ℕ → Refusal
+nth [] n = BadLine
+nth (r ∷ rs) zero = r
+nth (r ∷ rs) (suc n) = nth rs n
+
+-- the refusal that has a number: the table read from left to right
+named : ℕ → Refusal
+named =
+    nth
+    (BadLine ∷ BadFrame ∷ BadRows ∷ BadFace ∷ BadLevel ∷ BadRange ∷ BadNumber ∷ OffSphere ∷ Behind ∷ TooFar ∷ NotReduced ∷ OutOfFace ∷ NotAdjacent ∷ NoCrossing ∷ [])
+
+read-back : (r : Refusal) → named (numberOf r) ≡ r
+unfolding named nth
+read-back BadFrame = refl
+read-back BadRows = refl
+read-back BadFace = refl
+read-back BadLevel = refl
+read-back BadRange = refl
+read-back BadNumber = refl
+read-back OffSphere = refl
+read-back Behind = refl
+read-back TooFar = refl
+read-back NotReduced = refl
+read-back OutOfFace = refl
+read-back NotAdjacent = refl
+read-back NoCrossing = refl
+read-back BadLine = refl
+
+pub same-number : (a b : Refusal) → numberOf a ≡ numberOf b → a ≡ b
+same-number a b e = sym (read-back a) ∙ (ap named e ∙ read-back b)
+
+pub number-pos : (r : Refusal) → 0 < numberOf r
+number-pos BadFrame = omega arith
+number-pos BadRows = omega arith
+number-pos BadFace = omega arith
+number-pos BadLevel = omega arith
+number-pos BadRange = omega arith
+number-pos BadNumber = omega arith
+number-pos OffSphere = omega arith
+number-pos Behind = omega arith
+number-pos TooFar = omega arith
+number-pos NotReduced = omega arith
+number-pos OutOfFace = omega arith
+number-pos NotAdjacent = omega arith
+number-pos NoCrossing = omega arith
+number-pos BadLine = omega arith
