@@ -16,6 +16,11 @@ pub passed : (b : Bool) (r : Refusal) (v : Verdict) → pick b (Refused r) v ≡
 passed true r v e = let z : _≡_ {A = ℕ} 0 1 = cc in absurd (omega arith)
 passed false r v e = (refl, e)
 
+-- a verdict by one reason that refuses: the reason applies, and is the one found
+pub found : (b : Bool) (r s : Refusal) → pick b (Refused r) Fine ≡ Refused s → (b ≡ true) × (r ≡ s)
+found true r s e = (refl, cc)
+found false r s e = let z : _≡_ {A = ℕ} 0 1 = cc in absurd (omega arith)
+
 -- a test of two parts that fails
 pub neither : (a b : Bool) → (a || b) ≡ false → (a ≡ false) × (b ≡ false)
 neither true b e = absurd (true≢false e)

@@ -1,0 +1,71 @@
+-- What the table of neighbour faces has, computed over all twenty. Assumes nothing.
+use mathlib.Core.Path.{_≡_, refl}
+use mathlib.Core.Bool.{Bool, true, false, not, _&&_}
+use Prim.Native.Nat.{ℕ, zero, suc, _-_, _≤_, _<_}
+use native.Mathlib.Nat.{not-suc-le-zero}
+use native.Mathlib.Omega.{arith}
+use lib.Dec.{T, eqb, ltb, eqb→eq, ltb→lt}
+use Rattle.reply.specs.Choice.{pick}
+use Rattle.level.proofs.Computed.{left, right, all, at}
+use Rattle.faceijk.specs.Faces.{faceOver, dirTo}
+use Rattle.faceijk.specs.Steps.{polar}
+
+-- the edge of the face over edge e that leads back
+abbrev pub backOver : ℕ → ℕ → ℕ
+backOver f e = pick (eqb e 3) 3 (pick (polar f) (3 - e) e)
+
+-- the face g over edge e is another of the twenty, its edge b leads back, and over IJ and KI the two faces stand in one row of the step table
+pub record Mate (f e g b : ℕ) : Type 0 where
+  pub over : g < 20
+  pub here : faceOver g b ≡ f
+  pub back : dirTo g f ≡ b
+  pub other : eqb g f ≡ false
+  pub row : pick (eqb e 3) (polar f) (polar g) ≡ polar f
+
+abbrev same : Bool → Bool → Bool
+same a b = pick a b (not b)
+
+abbrev mate : ℕ → ℕ → ℕ → ℕ → Bool
+mate f e g b =
+    ltb g 20 && (eqb (faceOver g b) f && (eqb (dirTo g f) b && (not (eqb g f) && same (pick (eqb e 3) (polar f) (polar g)) (polar f))))
+
+is-false : (b : Bool) → T (not b) → b ≡ false
+is-false true t = absurd t
+is-false false t = refl
+
+is-same : (a b : Bool) → T (same a b) → a ≡ b
+is-same true true t = refl
+is-same true false t = absurd t
+is-same false true t = absurd t
+is-same false false t = refl
+
+mated : (f e g b : ℕ) → T (mate f e g b) → Mate f e g b
+mated f e g b t =
+    let r = right (ltb g 20) _ t in
+    let s = right (eqb (faceOver g b) f) _ r in
+    let v = right (eqb (dirTo g f) b) _ s in
+    record {
+      over = ltb→lt _ _ (left (ltb g 20) _ t);
+      here = eqb→eq _ _ (left (eqb (faceOver g b) f) _ r);
+      back = eqb→eq _ _ (left (eqb (dirTo g f) b) _ s);
+      other = is-false (eqb g f) (left (not (eqb g f)) _ v);
+      row = is-same _ _ (right (not (eqb g f)) _ v);
+    }
+
+-- the test at all twenty faces, for one edge
+abbrev mates : ℕ → Bool
+mates e = all (λ (f : ℕ). mate f e (faceOver f e) (backOver f e)) 20
+
+mate-at : (e : ℕ) → T (mates e) → (f : ℕ) → f < 20 → Mate f e (faceOver f e) (backOver f e)
+mate-at e t f h = mated f e _ _ (at (λ (k : ℕ). mate k e (faceOver k e) (backOver k e)) 20 t f h)
+
+-- over each edge of each face lies a neighbour, and its neighbour over the edge that leads back is the face itself
+pub mate-over : (e : ℕ) → 1 ≤ e → e ≤ 3 → (f : ℕ) → f < 20 → Mate f e (faceOver f e) (backOver f e)
+mate-over zero l h = absurd (not-suc-le-zero l)
+mate-over (suc zero) l h = mate-at 1 tt
+mate-over (suc (suc zero)) l h = mate-at 2 tt
+mate-over (suc (suc (suc zero))) l h = mate-at 3 tt
+mate-over (suc (suc (suc (suc e)))) l h = absurd (omega arith)
+
+pub neighbour-of-neighbour : (f e : ℕ) → f < 20 → 1 ≤ e → e ≤ 3 → faceOver (faceOver f e) (dirTo (faceOver f e) f) ≡ f
+neighbour-of-neighbour f e on l h = let m = mate-over e l h f on in rw (m .back) (m .here)
