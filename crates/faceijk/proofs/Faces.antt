@@ -69,3 +69,19 @@ mate-over (suc (suc (suc (suc e)))) l h = absurd (omega arith)
 
 pub neighbour-of-neighbour : (f e : ℕ) → f < 20 → 1 ≤ e → e ≤ 3 → faceOver (faceOver f e) (dirTo (faceOver f e) f) ≡ f
 neighbour-of-neighbour f e on l h = let m = mate-over e l h f on in rw (m .back) (m .here)
+
+-- the edge that leads back is one of the three
+pub back-range : (f e : ℕ) → 1 ≤ e → e ≤ 3 → (1 ≤ backOver f e) × (backOver f e ≤ 3)
+back-range f zero l h = absurd (not-suc-le-zero l)
+back-range f (suc zero) l h = go (polar f)
+  where
+    go : (b : Bool) → (1 ≤ pick b 2 1) × (pick b 2 1 ≤ 3)
+    go true = omega arith
+    go false = omega arith
+back-range f (suc (suc zero)) l h = go (polar f)
+  where
+    go : (b : Bool) → (1 ≤ pick b 1 2) × (pick b 1 2 ≤ 3)
+    go true = omega arith
+    go false = omega arith
+back-range f (suc (suc (suc zero))) l h = omega arith
+back-range f (suc (suc (suc (suc e)))) l h = absurd (omega arith)

@@ -54,6 +54,11 @@ okay-fine p o = let f : p .face ≤ 19 = omega (arith, o .on) in simp (le-ltb 19
 pub okay-on-grid : (p : Place) (l : ℕ) → Okay p → badGrid l ≡ false → onGridVerdict p l ≡ Fine
 okay-on-grid p l o h = let f : p .face ≤ 19 = omega (arith, o .on) in simp (le-ltb 19 (p .face) f, h, passes (coordOf p) (o .taken))
 
+pub okay-over-edge : (p : Place) (l e : ℕ) → Okay p → badGrid l ≡ false → 1 ≤ e → e ≤ 3 → overEdgeVerdict p l (badEdge e) ≡ Fine
+okay-over-edge p l e o h low high =
+    let f : p .face ≤ 19 = omega (arith, o .on) in
+    simp (le-ltb 19 (p .face) f, h, le-ltb e 1 low, le-ltb 3 e high, passes (coordOf p) (o .taken))
+
 -- what an entry on a grid learns of its tests
 pub fine-told : (v : Verdict) (h g : Grid) (x : OnGrid) → x ≡ OnGrid.Fine g → x ≡ onGridOf v h → (v ≡ Fine) × (g ≡ h)
 fine-told Fine h g x is e = (refl, cc)

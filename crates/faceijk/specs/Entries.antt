@@ -6,7 +6,7 @@ use lib.Dec.{ltb, eqb}
 use Rattle.reply.specs.Choice.{pick}
 use Rattle.reply.specs.declared.Verdict.{Verdict}
 use Rattle.reply.specs.declared.Refusal.the-variants.{BadFace, NotReduced}
-use Rattle.reply.specs.Replies.{Reply, when, first, answer, refusal, reply}
+use Rattle.reply.specs.Replies.{Reply, Reason, when, first, answer, refusal, reply}
 use Rattle.level.specs.Levels.{gridOf}
 use Rattle.coordijk.specs.declared.GridMap.{GridMap}
 use Rattle.coordijk.specs.declared.GridMap.the-variants.{SixthTurnCcw, SixthTurnCw}
@@ -90,10 +90,12 @@ saidSame SameCorner.Yes = answer (1 ∷ [])
 saidSame SameCorner.No = answer (0 ∷ [])
 saidSame (SameCorner.Refused r) = refusal 1 r
 
+abbrev pub sameReasons : Place → Place → List Reason
+sameReasons p q =
+    when (badFace (p .face) || badFace (q .face)) BadFace ∷ when (notReduced (coordOf p) || notReduced (coordOf q)) NotReduced ∷ []
+
 abbrev pub sameVerdict : Place → Place → Verdict
-sameVerdict p q =
-    first
-    (when (badFace (p .face) || badFace (q .face)) BadFace ∷ when (notReduced (coordOf p) || notReduced (coordOf q)) NotReduced ∷ [])
+sameVerdict p q = first (sameReasons p q)
 
 abbrev pub samePlace : Place → Place → Bool
 samePlace p q = eqb (p .face) (q .face) && eqb (p .i) (q .i) && eqb (p .j) (q .j) && eqb (p .k) (q .k)

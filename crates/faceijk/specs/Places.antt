@@ -40,23 +40,31 @@ pub record Okay (p : Place) : Type 0 where
 abbrev pub badFace : ℕ → Bool
 badFace f = ltb 19 f
 
--- the verdict on a place; on one on a grid; and on one on a grid where an edge is named too
-abbrev pub placeVerdict : Place → Verdict
-placeVerdict p = first (when (badFace (p .face)) BadFace ∷ when (notReduced (coordOf p)) NotReduced ∷ [])
+-- why a place may be refused; one on a grid; and one on a grid where an edge is named too
+abbrev pub placeReasons : Place → List Reason
+placeReasons p = when (badFace (p .face)) BadFace ∷ when (notReduced (coordOf p)) NotReduced ∷ []
 
-abbrev pub onGridVerdict : Place → ℕ → Verdict
-onGridVerdict p l =
-    first
-    (when (badFace (p .face)) BadFace ∷ when (badGrid l) BadLevel ∷ when (notReduced (coordOf p)) NotReduced ∷ [])
+abbrev pub onGridReasons : Place → ℕ → List Reason
+onGridReasons p l =
+    when (badFace (p .face)) BadFace ∷ when (badGrid l) BadLevel ∷ when (notReduced (coordOf p)) NotReduced ∷ []
 
 abbrev pub edgeReasons : Place → Bool → List Reason
 edgeReasons p badEdge = when badEdge BadRange ∷ when (notReduced (coordOf p)) NotReduced ∷ []
+
+abbrev pub overEdgeReasons : Place → ℕ → Bool → List Reason
+overEdgeReasons p l badEdge = when (badFace (p .face)) BadFace ∷ when (badGrid l) BadLevel ∷ edgeReasons p badEdge
+
+abbrev pub placeVerdict : Place → Verdict
+placeVerdict p = first (placeReasons p)
+
+abbrev pub onGridVerdict : Place → ℕ → Verdict
+onGridVerdict p l = first (onGridReasons p l)
 
 abbrev pub edgeVerdict : Place → Bool → Verdict
 edgeVerdict p badEdge = first (edgeReasons p badEdge)
 
 abbrev pub overEdgeVerdict : Place → ℕ → Bool → Verdict
-overEdgeVerdict p l badEdge = first (when (badFace (p .face)) BadFace ∷ when (badGrid l) BadLevel ∷ edgeReasons p badEdge)
+overEdgeVerdict p l badEdge = first (overEdgeReasons p l badEdge)
 
 -- what the tests of an entry on a grid leave
 abbrev pub onGridOf : Verdict → Grid → OnGrid

@@ -6,7 +6,7 @@ ghost use Rattle.coordijk.specs.Coordinates.{reduced};
 ghost use Rattle.faceijk.specs.Places.{place, coordOf, sumAt, QAt, Okay, Ready, placeVerdict, edgeVerdict, overEdgeVerdict, onGridOf};
 ghost use Rattle.faceijk.specs.Faces.{faceOver, dirTo, directionNumber};
 ghost use Rattle.faceijk.specs.Steps.{polar, stepOf};
-ghost use Rattle.faceijk.specs.Crossing.{edgeOut, aboutCorner, startOut, stepOut, onEdge, crossingOf, settleFrom};
+ghost use Rattle.faceijk.specs.Crossing.{edgeOut, aboutCorner, startOut, stepOut, landed, onEdge, crossingOf, settleFrom};
 ghost use Rattle.faceijk.specs.Entries.{reduceOf, saidMoved, turnMap, turnReply, stepReply, saidCrossed, crossReply, saidSettled, settleReply, saidDirected, directionReply, saidSame, sameVerdict, samePlace, sameReply};
 use coordijk::CoordIJK;
 use coordijk::GridMap;
@@ -157,6 +157,12 @@ fn placed(face: u32, c: CoordIJK) -> Place
         j: c.j,
         k: c.k,
     }
+}
+
+fn landing(place: Place, overage: Overage) -> Landed
+    ensures { λ r. ⌜ r ≡ landed place overage ⌝ }
+{
+    Landed { place, overage }
 }
 
 fn turn_map(clockwise: bool) -> GridMap
@@ -387,28 +393,16 @@ impl Place {
         ensures { λ r. ⌜ r ≡ crossingOf turn grid self ⌝ }
     {
         if self.on_edge(grid) {
-            return Landed {
-                place: self,
-                overage: Overage::FaceEdge,
-            };
+            return landing(self, Overage::FaceEdge);
         }
         if (grid.limit as u64) < self.sum() {
             let next = self.out(turn, grid);
             if next.on_edge(grid) {
-                return Landed {
-                    place: next,
-                    overage: Overage::FaceEdge,
-                };
+                return landing(next, Overage::FaceEdge);
             }
-            return Landed {
-                place: next,
-                overage: Overage::NewFace,
-            };
+            return landing(next, Overage::NewFace);
         }
-        Landed {
-            place: self,
-            overage: Overage::None,
-        }
+        landing(self, Overage::None)
     }
 
     // `adjust_overage_class2` of the source, with or without the pentagon turn.

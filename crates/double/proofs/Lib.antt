@@ -1,0 +1,7 @@
+pub mod Literals
+pub mod Sign
+pub mod Sizes
+pub mod Nonnegative
+pub mod Tests
+pub mod Squares
+pub mod Left

@@ -1,0 +1,155 @@
+-- Doubles that are their own size (`Upto`): products, sums, quotients and whole numbers of such are such. Assumes nothing.
+use mathlib.Core.Path.{_≡_, refl}
+use mathlib.Core.Bool.{true, false, false≢true}
+use Prim.Native.Nat.{ℕ, zero, suc, _+_, _-_, _*_, _/_, _^_, _≤_, _<_}
+use native.Mathlib.Nat.{le-trans, le-of-eq, mul-comm, mul-lt-mul-of-pos-right, div-le-of-le-mul}
+use native.Mathlib.Omega.{arith}
+use lib.IntN.{ℤ, pos}
+use lib.Dec.{T, lt→ltb, eqb·suc-zero, lit<, lit≤}
+use lib.Ieee.{Float, nan, inf, fin, binary64, ofBits, up, down, sum, add, mul, div, lt, ofInt, toUnsigned}
+use lib.Ieee.Fits.{down-pos}
+use lib.Ieee.Positive.{num, den}
+use Rattle.double.specs.Double.{finite, sizeOf, half, one, two, twoAndHalf, three, rsin60, sin60, wholeOf}
+use Rattle.double.specs.Sizes.{Under, Upto}
+use Rattle.double.proofs.Sizes.{round-size, size-under, under-le, whole-under, product-under, mul-under, add-under, none-above, quotient-under}
+
+-- A number with its sign set is not its own size.
+pub signed : {A : Type 0} (m : ℕ) (e : ℤ) → sizeOf (fin true m e) ≡ fin true m e → A
+signed m e h = absurd (false≢true (cc))
+
+pub upto-le : (a b : ℕ) (x : Float) → a ≤ b → Upto a x → Upto b x
+upto-le a b x h p = record { under = under-le a b x h (p .under); plus = p .plus }
+
+-- The size of a number that is at most n.
+pub size-upto : (n : ℕ) (x : Float) → Under n x → Upto n (sizeOf x)
+size-upto n x p = record { under = size-under n x p; plus = twice x }
+  where
+    twice : (x : Float) → sizeOf (sizeOf x) ≡ sizeOf x
+    twice nan = refl
+    twice (inf s) = refl
+    twice (fin s m e) = refl
+
+pub whole-upto : (n : ℕ) → n ≤ 2 ^ 53 → Upto n (ofInt binary64 (pos n))
+unfolding ofInt
+whole-upto n N = record { under = whole-under n N; plus = round-size false n 1 }
+
+-- ---- the operations keep the sign clear
+
+mul-plus : (x y : Float) → finite x ≡ true → finite y ≡ true → sizeOf x ≡ x → sizeOf y ≡ y → sizeOf (mul binary64 x y) ≡ mul binary64 x y
+unfolding mul
+mul-plus nan y f g p q = absurd (false≢true f)
+mul-plus (inf s) y f g p q = absurd (false≢true f)
+mul-plus (fin true m e) y f g p q = signed m e p
+mul-plus (fin false m e) nan f g p q = absurd (false≢true g)
+mul-plus (fin false m e) (inf t) f g p q = absurd (false≢true g)
+mul-plus (fin false m e) (fin true n d) f g p q = signed n d q
+mul-plus (fin false m e) (fin false n d) f g p q = round-size false (m * up e * (n * up d)) (down e * down d)
+
+add-plus : (x y : Float) → finite x ≡ true → finite y ≡ true → sizeOf x ≡ x → sizeOf y ≡ y → sizeOf (add binary64 x y) ≡ add binary64 x y
+unfolding add sum
+add-plus nan y f g p q = absurd (false≢true f)
+add-plus (inf s) y f g p q = absurd (false≢true f)
+add-plus (fin true m e) y f g p q = signed m e p
+add-plus (fin false m e) nan f g p q = absurd (false≢true g)
+add-plus (fin false m e) (inf t) f g p q = absurd (false≢true g)
+add-plus (fin false m e) (fin true n d) f g p q = signed n d q
+add-plus (fin false m e) (fin false n d) f g p q = round-size false (m * up e * down d + n * up d * down e) (down e * down d)
+
+div-plus : (x y : Float) → finite x ≡ true → finite y ≡ true → 0 < num y → sizeOf x ≡ x → sizeOf y ≡ y → sizeOf (div binary64 x y) ≡ div binary64 x y
+unfolding div
+div-plus nan y f g o p q = absurd (false≢true f)
+div-plus (inf s) y f g o p q = absurd (false≢true f)
+div-plus (fin true m e) y f g o p q = signed m e p
+div-plus (fin false m e) nan f g o p q = absurd (false≢true g)
+div-plus (fin false m e) (inf t) f g o p q = absurd (false≢true g)
+div-plus (fin false m e) (fin true n d) f g o p q = signed n d q
+div-plus (fin false m e) (fin false zero d) f g o p q = none-above (up d) o
+div-plus (fin false m e) (fin false (suc n) d) f g o p q = rw eqb·suc-zero (round-size false (m * up e * down d) (suc n * up d * down e))
+
+-- A number from 0 to a, times a y from 0 to b / a, is from 0 to b.
+pub product-upto : (a b n : ℕ) (x y : Float) → Upto a x → Upto n y → a * num y ≤ b * den y → b ≤ 2 ^ 53 → Upto b (mul binary64 x y)
+product-upto a b n x y p q h N =
+    let f = p .under .number in
+    let g = q .under .number in
+    record { under = product-under a b x y (p .under) g h N; plus = mul-plus x y f g (p .plus) (q .plus) }
+
+pub mul-upto : (a b : ℕ) (x y : Float) → Upto a x → Upto b y → a * b ≤ 2 ^ 53 → Upto (a * b) (mul binary64 x y)
+mul-upto a b x y p q N =
+    record { under = mul-under a b x y (p .under) (q .under) N; plus = mul-plus x y (p .under .number) (q .under .number) (p .plus) (q .plus) }
+
+pub add-upto : (a b : ℕ) (x y : Float) → Upto a x → Upto b y → a + b ≤ 2 ^ 53 → Upto (a + b) (add binary64 x y)
+add-upto a b x y p q N =
+    record { under = add-under a b x y (p .under) (q .under) N; plus = add-plus x y (p .under .number) (q .under .number) (p .plus) (q .plus) }
+
+-- ---- the numbers of the paper
+
+pub half-upto : Upto 1 half
+unfolding ofBits
+half-upto = record { under = record { number = refl; size = lit≤ tt }; plus = refl }
+
+pub one-upto : Upto 1 one
+unfolding ofBits
+one-upto = record { under = record { number = refl; size = lit≤ tt }; plus = refl }
+
+pub two-upto : Upto 2 two
+unfolding ofBits
+two-upto = record { under = record { number = refl; size = lit≤ tt }; plus = refl }
+
+pub two-and-half-upto : Upto 3 twoAndHalf
+unfolding ofBits
+two-and-half-upto = record { under = record { number = refl; size = lit≤ tt }; plus = refl }
+
+pub three-upto : Upto 3 three
+unfolding ofBits
+three-upto = record { under = record { number = refl; size = lit≤ tt }; plus = refl }
+
+pub rsin60-upto : Upto 2 rsin60
+unfolding ofBits
+rsin60-upto = record { under = record { number = refl; size = lit≤ tt }; plus = refl }
+
+pub sin60-upto : Upto 1 sin60
+unfolding ofBits
+sin60-upto = record { under = record { number = refl; size = lit≤ tt }; plus = refl }
+
+-- Half of a number from 0 to 2 n is from 0 to n.
+pub halved-upto : (n : ℕ) (x : Float) → Upto (2 * n) x → n ≤ 2 ^ 53 → Upto n (div binary64 x two)
+unfolding ofBits
+halved-upto n x p N =
+    record {
+      under = quotient-under (2 * n) n x two (p .under) refl (lit< tt) (omega arith) N;
+      plus = div-plus x two (p .under .number) refl (lit< tt) (p .plus) refl;
+    }
+
+-- ---- the whole part
+
+-- The whole part of a number from 0 to n is at most n.
+pub whole-le : (n : ℕ) (x : Float) → Upto n x → wholeOf x ≤ n
+unfolding toUnsigned
+whole-le n nan p = absurd (false≢true (p .under .number))
+whole-le n (inf s) p = absurd (false≢true (p .under .number))
+whole-le n (fin true m e) p = signed m e (p .plus)
+whole-le n (fin false m e) p =
+    let d : m * up e / down e ≤ n = div-le-of-le-mul (down e) (le-trans (p .under .size) (le-of-eq (mul-comm n (down e)))) in
+    omega arith
+
+-- what a call of `truncating_f64_to_u64` asks
+some : (d a : ℕ) → 0 < d → 0 < 1 * d + a
+some d a h = omega arith
+
+pub above-minus-one : (n : ℕ) (x : Float) → Upto n x → T (lt (fin true 1 (pos 0)) x)
+unfolding lt
+above-minus-one n nan p = absurd (false≢true (p .under .number))
+above-minus-one n (inf s) p = absurd (false≢true (p .under .number))
+above-minus-one n (fin true m e) p = signed m e (p .plus)
+above-minus-one n (fin false m e) p = lt→ltb 0 (1 * down e + m * up e * 1) (some (down e) (m * up e * 1) (down-pos e))
+
+pub below-top : (n : ℕ) (x : Float) → n < 2 ^ 64 → Upto n x → T (lt x (fin false 1 (pos 64)))
+unfolding lt
+below-top n nan N p = absurd (false≢true (p .under .number))
+below-top n (inf s) N p = absurd (false≢true (p .under .number))
+below-top n (fin true m e) N p = signed m e (p .plus)
+below-top n (fin false m e) N p =
+    let l : n * down e < 2 ^ 64 * down e = mul-lt-mul-of-pos-right N (down-pos e) in
+    let b : m * up e ≤ n * down e = p .under .size in
+    let g : m * up e * 1 < 2 ^ 64 * down e = omega arith in
+    lt→ltb (m * up e * 1) (2 ^ 64 * down e) g

@@ -1,0 +1,47 @@
+// What the rest asks of a double: its size, whether it is finite, its whole part with what is left over, and a product with a sum.
+ghost use mathlib.Core.Path.{_≡_};
+ghost use Prim.Native.Nat.{_-_, _^_};
+ghost use Rattle.double.specs.Double.{finite, sizeOf, partsOf, mulAdd};
+ghost use Rattle.double.specs.Sizes.{Upto};
+
+// The whole part of a number from 0 up, and what is left of the number without it.
+pub struct Parts {
+    pub whole: u32,
+    pub left: f64,
+}
+
+// |x|: the sign bit is cleared, also a zero's. A NaN stays a NaN.
+pub fn size(x: f64) -> f64
+    ensures { λ r. ⌜ r ≡ sizeOf x ⌝ }
+{
+    if x != x {
+        return x;
+    }
+    f64::from_bits(f64::to_bits(x) % 0x8000_0000_0000_0000)
+}
+
+// Whether x is neither a NaN nor an infinity: its size is below infinity.
+pub fn is_finite(x: f64) -> bool
+    ensures { λ r. ⌜ r ≡ finite x ⌝ }
+{
+    size(x) < 1.0 / 0.0
+}
+
+// Whole part and leftover together. Public for the rounding of plane points, which tests the size before.
+pub fn split(x: f64) -> Parts
+    requires { ⌜ Upto (2 ^ 32 - 1) x ⌝ }
+    ensures { λ r. ⌜ r ≡ partsOf x ⌝ }
+{
+    let whole = std::num::truncating_f64_to_u64(x) as u32;
+    Parts {
+        whole,
+        left: x - (whole as f64),
+    }
+}
+
+// The source's `mul_add`, here a product and a sum, each rounded.
+pub fn mul_add(a: f64, b: f64, c: f64) -> f64
+    ensures { λ r. ⌜ r ≡ mulAdd a b c ⌝ }
+{
+    a * b + c
+}

@@ -1,0 +1,10 @@
+pub mod Differences
+pub mod Folding
+pub mod Whole
+pub mod Accepted
+pub mod Answers
+pub mod Taken
+pub mod Leftovers
+pub mod Checked
+pub mod Unique
+pub mod Order

@@ -1,0 +1,37 @@
+-- `Vec2d::quantize` meets its contract: both coordinates are from 0 up and small enough to be split. Assumes nothing.
+use borrow.Author.Needs.{needs}
+use Prim.Native.Nat.{_-_, _^_}
+use lib.Dec.{lit≤}
+use Rattle.double.proofs.Nonnegative.{upto-le}
+use Rattle.vec2d.specs.Rounding.{quantizedOf}
+use Rattle.vec2d.proofs.Accepted.{first-upto, second-upto, first-whole, second-whole}
+use Rattle.vec2d.proofs.Vec2d.quantize.Statement.{statement}
+use Rattle.vec2d.proofs.Vec2d.quantize.Tie as tie
+
+split-requires : tie.Need-split-requires
+split-requires c κs =
+    let p = c .before .before in
+    rw (c .size2 .ensures, c .before .size .ensures) (upto-le (2 ^ 26 - 1) (2 ^ 32 - 1) _ (lit≤ tt) (first-upto (p .args .self) (p .pre)))
+
+split-requires-2 : tie.Need-split-requires-2
+split-requires-2 c κs =
+    let p = c .before .before .before in
+    rw (c .before .before .size .ensures) (upto-le (2 ^ 26 - 1) (2 ^ 32 - 1) _ (lit≤ tt) (second-upto (p .args .self) (p .pre)))
+
+returns : tie.Need-returns
+unfolding quantizedOf
+returns c =
+    let x = c .before .before in
+    let y = x .before in
+    let p = y .before in (
+      rw (c .split2 .ensures, c .before .split .ensures, x .size2 .ensures, y .size .ensures),
+      (
+        rw (c .before .split .ensures, x .size2 .ensures, y .size .ensures) (first-whole (p .args .self) (p .pre)),
+        rw (c .split2 .ensures, y .size .ensures) (second-whole (p .args .self) (p .pre)),
+      ),
+    )
+
+pub quantize-spec : {M : Type 1} → statement M
+quantize-spec =
+    tie.close
+    (tie.spec (λ c κs. search needs) (λ c κs. search needs) split-requires split-requires-2 returns)

@@ -1,0 +1,6 @@
+pub mod Points
+pub mod Rounding
+pub mod Checked
+pub mod Centre
+pub mod Closeness
+pub mod Meeting

@@ -1,0 +1,99 @@
+-- From a plane point to a hexagon, operation by operation.
+use mathlib.Core.Bool.{Bool, true, false, not, _&&_, _||_}
+use mathlib.Core.List.{List, [], _∷_}
+use Prim.Native.Nat.{ℕ, _+_, _^_}
+use lib.IntN.{ℤ, pos, negℤ, natAbs, _+ℤ_, _-ℤ_, _*ℤ_}
+use lib.Signed.{leZ, quotZ, remZ}
+use lib.Ieee.{Float, binary64, add, sub, mul, div, lt, le}
+use Rattle.reply.specs.Choice.{pick}
+use Rattle.reply.specs.declared.Verdict.{Verdict}
+use Rattle.reply.specs.declared.Refusal.the-variants.{BadNumber, TooFar}
+use Rattle.reply.specs.Replies.{Reason, when, first, Reply, answer, refusal, reply}
+use Rattle.double.specs.Double.{nought, half, one, two, three, rsin60, limit, sizeOf, wholeOf, leftOf}
+use Rattle.double.specs.Sizes.{Under}
+use Rattle.coordijk.specs.declared.CoordIJK.{CoordIJK}
+use Rattle.coordijk.specs.Coordinates.{coord, coordValues}
+use Rattle.vec2d.specs.declared.Vec2d.{Vec2d}
+use Rattle.vec2d.specs.declared.Quantized.{Quantized}
+use Rattle.vec2d.specs.declared.Steps.{Steps}
+use Rattle.vec2d.specs.declared.Rounded.{Rounded}
+use Rattle.vec2d.specs.declared.Rounded.the-variants.{Done, Refused}
+use Rattle.vec2d.specs.Points.{isPoint}
+
+-- TooFar: size of x or y is 2^25 or more
+unfoldable pub tooFar : Vec2d → Bool
+tooFar v = le limit (sizeOf (v .x)) || le limit (sizeOf (v .y))
+
+abbrev pub roundReasons : Vec2d → List Reason
+roundReasons v = when (not (isPoint v)) BadNumber ∷ when (tooFar v) TooFar ∷ []
+
+abbrev pub roundVerdict : Vec2d → Verdict
+roundVerdict v = first (roundReasons v)
+
+-- what an accepted point's parts are
+pub record Near (v : Vec2d) : Type 0 where
+  pub x : Under (2 ^ 25) (v .x)
+  pub y : Under (2 ^ 25) (v .y)
+
+-- x2 = |y|·1.1547005383792515, x1 = |x| + x2/2
+abbrev pub x2Of : Vec2d → Float
+x2Of v = mul binary64 (sizeOf (v .y)) rsin60
+
+abbrev pub x1Of : Vec2d → Float
+x1Of v = add binary64 (sizeOf (v .x)) (div binary64 (x2Of v) two)
+
+-- whole parts m1, m2, leftovers r1, r2
+unfoldable pub quantizedOf : Vec2d → Quantized
+quantizedOf v = record { m1 = wholeOf (x1Of v); m2 = wholeOf (x2Of v); r1 = leftOf (x1Of v); r2 = leftOf (x2Of v) }
+
+-- The branches in the source's order, by the leftovers: whether i is m1 + 1, and whether j is m2 + 1. `mul_add(2.0, r1, -1.)` is 2·r1 - 1, whose product is exact.
+unfoldable pub stepsOf : Float → Float → Steps
+stepsOf r1 r2 =
+    let rest = sub binary64 one r1 in
+    pick (lt r1 half)
+    (pick (lt r1 (div binary64 one three))
+    (record { i = false; j = le (div binary64 (add binary64 one r1) two) r2 })
+    (record { i = le rest r2 && lt r2 (mul binary64 two r1); j = le rest r2 }))
+    (pick (lt r1 (div binary64 two three))
+    (record { i = le r2 (sub binary64 (mul binary64 two r1) one) || le rest r2; j = le rest r2 })
+    (record { i = true; j = le (div binary64 r1 two) r2 }))
+
+abbrev pub raisedBy : Bool → ℕ → ℕ
+raisedBy b m = pick b (m + 1) m
+
+-- The folds of the source: for x < 0 by the axis that j's parity shifts, then for y < 0, where j's sign turns too.
+abbrev pub leftFold : ℤ → ℤ → ℤ
+leftFold i j =
+    let offset = remZ j (pos 2) in
+    let axis = quotZ (j +ℤ offset) (pos 2) in
+    i -ℤ (pos 2 *ℤ (i -ℤ axis) +ℤ offset)
+
+abbrev pub downFold : ℤ → ℤ → ℤ
+downFold i j = i -ℤ quotZ (pos 2 *ℤ j +ℤ pos 1) (pos 2)
+
+-- Reducing, where a coordinate may be below zero: the least is subtracted from all three.
+abbrev pub leastZ : ℤ → ℤ → ℤ
+leastZ a b = pick (leZ a b) a b
+
+abbrev pub reducedZ : ℤ → ℤ → ℤ → CoordIJK
+reducedZ i j k = let l = leastZ i (leastZ j k) in coord (natAbs (i -ℤ l)) (natAbs (j -ℤ l)) (natAbs (k -ℤ l))
+
+unfoldable pub foldOf : Bool → Bool → ℕ → ℕ → CoordIJK
+foldOf left down i j =
+    let across = pick left (leftFold (pos i) (pos j)) (pos i) in
+    reducedZ (pick down (downFold across (pos j)) across) (pick down (negℤ (pos j)) (pos j)) (pos 0)
+
+-- The hexagon of an accepted point. Minus zero is not below zero.
+unfoldable pub nearestOf : Vec2d → CoordIJK
+nearestOf v =
+    let q = quantizedOf v in
+    let s = stepsOf (q .r1) (q .r2) in
+    foldOf (lt (v .x) nought) (lt (v .y) nought) (raisedBy (s .i) (q .m1)) (raisedBy (s .j) (q .m2))
+
+-- the entry, in the paper's numbers
+abbrev pub saidRounded : Rounded → Reply
+saidRounded (Done c) = answer (coordValues c)
+saidRounded (Refused r) = refusal 3 r
+
+abbrev pub roundReply : Vec2d → Reply
+roundReply v = reply 3 (roundVerdict v) (coordValues (nearestOf v))

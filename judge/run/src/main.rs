@@ -1,0 +1,36 @@
+//! Asks the Rust of docs/src and the proved library the same questions and compares every answer.
+mod chance;
+mod ours;
+mod round;
+
+/// How many questions of one kind were asked, and how many answers differed.
+pub struct Tally {
+    name: &'static str,
+    asked: u64,
+    refused: u64,
+    differed: u64,
+}
+
+impl Tally {
+    pub fn same<const N: usize>(&mut self, ours: ours::Said<N>, theirs: ours::Said<N>, what: impl Fn() -> String) {
+        self.asked += 1;
+        self.refused += u64::from(theirs.number != 0);
+        if ours != theirs {
+            self.differed += 1;
+            if self.differed <= 5 {
+                println!("  {}: ours {ours:?}, theirs {theirs:?}", what());
+            }
+        }
+    }
+}
+
+fn main() {
+    let mut bad = false;
+    for (name, run) in [("round", round::run as fn(&mut Tally))] {
+        let mut tally = Tally { name, asked: 0, refused: 0, differed: 0 };
+        run(&mut tally);
+        println!("{}: {} asked, {} refused by both, {} differ", tally.name, tally.asked, tally.refused, tally.differed);
+        bad |= tally.differed != 0;
+    }
+    std::process::exit(i32::from(bad));
+}
