@@ -7,7 +7,7 @@ ghost use Rattle.faceijk.specs.Places.{place, coordOf, sumAt, QAt, Okay,
 ghost use Rattle.faceijk.specs.Faces.{faceOver, dirTo, directionNumber};
 ghost use Rattle.faceijk.specs.Steps.{polar, stepOf};
 ghost use Rattle.faceijk.specs.Crossing.{edgeOut, aboutCorner, startOut, stepOut, landed, onEdge, crossingOf, settleFrom};
-ghost use Rattle.faceijk.specs.Entries.{reduceOf, saidMoved, turnMap, turnReply, stepReply, saidCrossed, crossReply, saidSettled, settleReply, saidDirected, directionReply, saidSame, sameVerdict, samePlace, sameReply};
+ghost use Rattle.faceijk.specs.Entries.{reduceOf, saidMoved, turnMap, turnReply, stepReply, overageNumber, saidCrossed, crossReply, saidSettled, settleReply, saidDirected, directionReply, saidSame, sameVerdict, samePlace, sameReply};
 use coordijk::CoordIJK;
 use coordijk::GridMap;
 use coordijk::Mapped;
@@ -223,6 +223,34 @@ pub fn face_direction(from: u32, to: u32) -> Directed
         return Directed::Refused(Refusal::BadFace);
     }
     Directed::Done(direction_to(from, to))
+}
+
+impl Overage {
+    // 0, 1 or 2, in the order above.
+    pub fn number(self) -> u32
+        ensures { λ r. ⌜ r ≡ overageNumber self ⌝ }
+    {
+        match self {
+            Overage::None => 0,
+            Overage::FaceEdge => 1,
+            Overage::NewFace => 2,
+        }
+    }
+}
+
+impl Direction {
+    // The paper's direction number: 0, 1, 2, 3 or 7.
+    pub fn number(self) -> u32
+        ensures { λ r. ⌜ r ≡ directionNumber self ⌝ }
+    {
+        match self {
+            Direction::Itself => 0,
+            Direction::OverIJ => 1,
+            Direction::OverKI => 2,
+            Direction::OverJK => 3,
+            Direction::Elsewhere => 7,
+        }
+    }
 }
 
 impl Place {

@@ -7,6 +7,7 @@ use lib.ListN.{length, drop}
 use Rattle.reply.specs.Choice.{pick}
 use Rattle.reply.specs.declared.Refusal.the-variants.{BadRows}
 use Rattle.reply.specs.Replies.{numberOf, Reply}
+use Rattle.faceijk.specs.declared.Place.{Place}
 
 -- the number: 2 for a slice that is too short for n values, else the reply's
 abbrev pub numberFor : ℕ → Reply → List ℕ → ℕ
@@ -20,3 +21,7 @@ valuesFor n r out = pick (eqb (numberFor n r out) 0) (r .values ++ drop n out) o
 pub record Gives (n : ℕ) (r : Reply) (before after : List ℕ) (k : ℕ) : Type 0 where
   pub number : k ≡ numberFor n r before
   pub values : after ≡ valuesFor n r before
+
+-- a place by its four numbers
+abbrev pub at : ℕ → ℕ → ℕ → ℕ → Place
+at f i j k = record { face = f; i = i; j = j; k = k }

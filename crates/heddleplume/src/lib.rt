@@ -4,12 +4,27 @@ ghost use mathlib.Core.Path.{_≡_};
 ghost use mathlib.Core.List.{[], _∷_, _++_};
 ghost use Prim.Native.Nat.{_≤_};
 ghost use lib.ListN.{length, drop};
+ghost use Rattle.faceijk.specs.Entries.{turnReply, stepReply, crossReply, settleReply, directionReply, sameReply};
 ghost use Rattle.vec2d.specs.Points.{point};
 ghost use Rattle.vec2d.specs.Rounding.{roundReply};
-ghost use Rattle.heddleplume.specs.Lent.{Gives};
+ghost use Rattle.heddleplume.specs.Lent.{Gives, at};
+use faceijk::Crossed;
+use faceijk::Directed;
+use faceijk::Moved;
+use faceijk::Place;
+use faceijk::SameCorner;
+use faceijk::Settled;
+use level::GridLevel;
 use reply::Refusal;
 use vec2d::Rounded;
 use vec2d::Vec2d;
+
+fn put1(out: &mut [u32], a: u32)
+    requires { ⌜ 1 ≤ length (now out) ⌝ }
+    ensures { λ _. ⌜ now (out .exit) ≡ (a ∷ []) ++ drop 1 (now (out .entry)) ⌝ }
+{
+    out[0] = a;
+}
 
 fn put3(out: &mut [u32], a: u32, b: u32, c: u32)
     requires { ⌜ 3 ≤ length (now out) ⌝ }
@@ -18,6 +33,38 @@ fn put3(out: &mut [u32], a: u32, b: u32, c: u32)
     out[0] = a;
     out[1] = b;
     out[2] = c;
+}
+
+fn put4(out: &mut [u32], a: u32, b: u32, c: u32, d: u32)
+    requires { ⌜ 4 ≤ length (now out) ⌝ }
+    ensures { λ _. ⌜ now (out .exit) ≡ (a ∷ b ∷ c ∷ d ∷ []) ++ drop 4 (now (out .entry)) ⌝ }
+{
+    out[0] = a;
+    out[1] = b;
+    out[2] = c;
+    out[3] = d;
+}
+
+fn put5(out: &mut [u32], a: u32, b: u32, c: u32, d: u32, e: u32)
+    requires { ⌜ 5 ≤ length (now out) ⌝ }
+    ensures { λ _. ⌜ now (out .exit) ≡ (a ∷ b ∷ c ∷ d ∷ e ∷ []) ++ drop 5 (now (out .entry)) ⌝ }
+{
+    out[0] = a;
+    out[1] = b;
+    out[2] = c;
+    out[3] = d;
+    out[4] = e;
+}
+
+fn put5_wide(out: &mut [u64], a: u64, b: u64, c: u64, d: u64, e: u64)
+    requires { ⌜ 5 ≤ length (now out) ⌝ }
+    ensures { λ _. ⌜ now (out .exit) ≡ (a ∷ b ∷ c ∷ d ∷ e ∷ []) ++ drop 5 (now (out .entry)) ⌝ }
+{
+    out[0] = a;
+    out[1] = b;
+    out[2] = c;
+    out[3] = d;
+    out[4] = e;
 }
 
 // The hexagon of a plane point: i, j, k.
@@ -35,5 +82,180 @@ pub extern "C" fn heddleplume_round(x: f64, y: f64, out: &mut [u32]) -> u32
             0
         }
         Rounded::Refused(refusal) => refusal.number(),
+    }
+}
+
+// The direction from one face to another: 0, 1, 2, 3 or 7.
+#[no_mangle]
+pub extern "C" fn heddleplume_direction(from: u32, to: u32, out: &mut [u32]) -> u32
+    ensures { λ r. ⌜ Gives 1 (directionReply from to) (now (out .entry)) (now (out .exit)) r ⌝ }
+{
+    if out.len() < 1 {
+        return Refusal::BadRows.number();
+    }
+    let directed = faceijk::face_direction(from, to);
+    match directed {
+        Directed::Done(d) => {
+            put1(out, d.number());
+            0
+        }
+        Directed::Refused(refusal) => refusal.number(),
+    }
+}
+
+// A sixth turn: face, i, j, k.
+#[no_mangle]
+pub extern "C" fn heddleplume_turn(
+    face: u32,
+    i: u32,
+    j: u32,
+    k: u32,
+    clockwise: bool,
+    out: &mut [u32],
+) -> u32
+    ensures { λ r. ⌜ Gives 4 (turnReply (at face i j k) clockwise) (now (out .entry)) (now (out .exit)) r ⌝ }
+{
+    if out.len() < 4 {
+        return Refusal::BadRows.number();
+    }
+    let moved = Place::new(face, i, j, k).turn(clockwise);
+    match moved {
+        Moved::Done(p) => {
+            put4(out, p.face, p.i, p.j, p.k);
+            0
+        }
+        Moved::Refused(refusal) => refusal.number(),
+    }
+}
+
+// The step over a named edge: face, i, j, k.
+#[no_mangle]
+pub extern "C" fn heddleplume_step(
+    face: u32,
+    i: u32,
+    j: u32,
+    k: u32,
+    level: u32,
+    substrate: bool,
+    edge: u32,
+    out: &mut [u32],
+) -> u32
+    ensures { λ r. ⌜ Gives 4 (stepReply (at face i j k) level substrate edge) (now (out .entry)) (now (out .exit)) r ⌝ }
+{
+    if out.len() < 4 {
+        return Refusal::BadRows.number();
+    }
+    let moved = Place::new(face, i, j, k).step(GridLevel(level), substrate, edge);
+    match moved {
+        Moved::Done(p) => {
+            put4(out, p.face, p.i, p.j, p.k);
+            0
+        }
+        Moved::Refused(refusal) => refusal.number(),
+    }
+}
+
+// Crossing: face, i, j, k, and 0 for None, 1 for FaceEdge, 2 for NewFace.
+#[no_mangle]
+pub extern "C" fn heddleplume_cross(
+    face: u32,
+    i: u32,
+    j: u32,
+    k: u32,
+    level: u32,
+    substrate: bool,
+    turn: bool,
+    out: &mut [u32],
+) -> u32
+    ensures { λ r. ⌜ Gives 5 (crossReply (at face i j k) level substrate turn) (now (out .entry)) (now (out .exit)) r ⌝ }
+{
+    if out.len() < 5 {
+        return Refusal::BadRows.number();
+    }
+    let crossed = Place::new(face, i, j, k).cross(GridLevel(level), substrate, turn);
+    match crossed {
+        Crossed::Done(l) => {
+            let overage = l.overage;
+            put5(
+                out,
+                l.place.face,
+                l.place.i,
+                l.place.j,
+                l.place.k,
+                overage.number(),
+            );
+            0
+        }
+        Crossed::Refused(refusal) => refusal.number(),
+    }
+}
+
+// Settling: face, i, j, k, and the number of steps.
+#[no_mangle]
+pub extern "C" fn heddleplume_settle(
+    face: u32,
+    i: u32,
+    j: u32,
+    k: u32,
+    level: u32,
+    substrate: bool,
+    out: &mut [u64],
+) -> u32
+    ensures { λ r. ⌜ Gives 5 (settleReply (at face i j k) level substrate) (now (out .entry)) (now (out .exit)) r ⌝ }
+{
+    if out.len() < 5 {
+        return Refusal::BadRows.number();
+    }
+    let settled = Place::new(face, i, j, k).settle(GridLevel(level), substrate);
+    match settled {
+        Settled::Done(s) => {
+            put5_wide(
+                out,
+                s.place.face as u64,
+                s.place.i as u64,
+                s.place.j as u64,
+                s.place.k as u64,
+                s.steps,
+            );
+            0
+        }
+        Settled::Refused(refusal) => refusal.number(),
+    }
+}
+
+// Whether two corners have one name: 1 yes, 0 no.
+#[no_mangle]
+pub extern "C" fn heddleplume_same_corner(
+    face: u32,
+    i: u32,
+    j: u32,
+    k: u32,
+    other_face: u32,
+    other_i: u32,
+    other_j: u32,
+    other_k: u32,
+    out: &mut [u32],
+) -> u32
+    ensures { λ r. ⌜ Gives 1 (sameReply (at face i j k) (at «other_face» «other_i» «other_j» «other_k»)) (now (out .entry)) (now (out .exit)) r ⌝ }
+{
+    if out.len() < 1 {
+        return Refusal::BadRows.number();
+    }
+    let same = Place::new(face, i, j, k).same_corner(Place::new(
+        other_face,
+        other_i,
+        other_j,
+        other_k,
+    ));
+    match same {
+        SameCorner::Yes => {
+            put1(out, 1);
+            0
+        }
+        SameCorner::No => {
+            put1(out, 0);
+            0
+        }
+        SameCorner::Refused(refusal) => refusal.number(),
     }
 }

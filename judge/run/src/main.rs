@@ -1,6 +1,7 @@
 //! Asks the Rust of docs/src and the proved library the same questions and compares every answer.
 mod chance;
 mod ours;
+mod places;
 mod round;
 
 /// How many questions of one kind were asked, and how many answers differed.
@@ -26,7 +27,16 @@ impl Tally {
 
 fn main() {
     let mut bad = false;
-    for (name, run) in [("round", round::run as fn(&mut Tally))] {
+    let questions: [(&str, fn(&mut Tally)); 7] = [
+        ("round", round::run),
+        ("direction", places::run_direction),
+        ("turn", places::run_turn),
+        ("step", places::run_step),
+        ("cross", places::run_cross),
+        ("settle", places::run_settle),
+        ("same corner", places::run_same),
+    ];
+    for (name, run) in questions {
         let mut tally = Tally { name, asked: 0, refused: 0, differed: 0 };
         run(&mut tally);
         println!("{}: {} asked, {} refused by both, {} differ", tally.name, tally.asked, tally.refused, tally.differed);

@@ -6,15 +6,14 @@ const LIMIT: f64 = 33554432.;
 
 /// What document 01 says: 6 for a NaN or an infinity, 9 from 2^25 on, else what the Rust says.
 fn expected(x: f64, y: f64) -> Said<3> {
-    let refused = |number| Said { number, values: [ours::UNTOUCHED; 3] };
     if !x.is_finite() || !y.is_finite() {
-        return refused(6);
+        return Said::refused(6);
     }
     if x.abs() >= LIMIT || y.abs() >= LIMIT {
-        return refused(9);
+        return Said::refused(9);
     }
     let c = CoordIJK::from(Vec2d::new(x, y));
-    Said { number: 0, values: [c.i() as u32, c.j() as u32, c.k() as u32] }
+    Said::done([c.i() as u64, c.j() as u64, c.k() as u64])
 }
 
 fn ask(tally: &mut Tally, x: f64, y: f64) {
