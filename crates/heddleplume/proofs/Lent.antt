@@ -1,16 +1,17 @@
 -- The three ways in which a C function ends: a slice that is too short, an answer, a refusal. Assumes nothing.
 use mathlib.Core.Path.{_≡_, refl, sym, ap, _∙_, subst}
 use mathlib.Core.List.{List, [], _∷_, _++_}
-use Prim.Native.Nat.{ℕ, _≤_, _<_}
+use Prim.Native.Nat.{ℕ, zero, suc, _≤_, _<_}
 use native.Mathlib.Omega.{arith}
 use lib.Dec.{ltb, eqb}
-use lib.ListN.{length, drop}
+use lib.Ieee.{Float, binary64, toBits}
+use lib.ListN.{length, drop, length-map}
 use borrow.Author.Tests.{lt-ltb, le-ltb, ne-eqb}
 use Rattle.reply.specs.declared.Refusal.{Refusal}
 use Rattle.reply.specs.declared.Refusal.the-variants.{BadRows}
 use Rattle.reply.specs.Replies.{numberOf, Reply, answer, refusal}
 use Rattle.reply.proofs.Numbers.{number-pos}
-use Rattle.heddleplume.specs.Lent.{Gives}
+use Rattle.heddleplume.specs.Lent.{Gives, bitsOf}
 
 pub short : (n : ℕ) (r : Reply) (out : List ℕ) (k : ℕ) → length out < n → k ≡ numberOf BadRows → Gives n r out out k
 short n r out k h e = record { number = simp (lt-ltb (length out) n h) e; values = simp (lt-ltb (length out) n h) }
@@ -31,3 +32,31 @@ module _ (n : ℕ) (out : List ℕ) (room : n ≤ length out) where
 
   pub refuses : (r : Reply) (x : Refusal) (k : ℕ) → refusal n x ≡ r → k ≡ numberOf x → Gives n r out out k
   refuses r x k e w = subst (λ (y : Reply). Gives n y out out k) e (subst (λ (m : ℕ). Gives n (refusal n x) out out m) (sym w) (kept x))
+
+-- The same for a slice of doubles, read by their bits.
+bits-append : (xs ys : List Float) → bitsOf (xs ++ ys) ≡ bitsOf xs ++ bitsOf ys
+bits-append [] ys = refl
+bits-append (x ∷ xs) ys = ap (λ (l : List ℕ). toBits binary64 x ∷ l) (bits-append xs ys)
+
+bits-drop : (n : ℕ) (xs : List Float) → bitsOf (drop n xs) ≡ drop n (bitsOf xs)
+bits-drop zero xs = refl
+bits-drop (suc n) [] = refl
+bits-drop (suc n) (x ∷ xs) = bits-drop n xs
+
+module _ (n : ℕ) (out : List Float) where
+  few : length out < n → length (bitsOf out) < n
+  few h = rw (length-map out (toBits binary64)) h
+
+  pub short-doubles : (r : Reply) (k : ℕ) → length out < n → k ≡ numberOf BadRows → Gives n r (bitsOf out) (bitsOf out) k
+  short-doubles r k h e = short n r (bitsOf out) k (few h) e
+
+  room-bits : n ≤ length out → n ≤ length (bitsOf out)
+  room-bits h = rw (length-map out (toBits binary64)) h
+
+  pub answers-doubles : n ≤ length out → (r : Reply) (vs after : List Float) → answer (bitsOf vs) ≡ r → after ≡ vs ++ drop n out → Gives n r (bitsOf out) (bitsOf after) 0
+  answers-doubles room r vs after e w =
+      answers n (bitsOf out) (room-bits room) r (bitsOf vs) (bitsOf after) e
+      (ap bitsOf w ∙ (bits-append vs (drop n out) ∙ ap (λ (l : List ℕ). bitsOf vs ++ l) (bits-drop n out)))
+
+  pub refuses-doubles : n ≤ length out → (r : Reply) (x : Refusal) (k : ℕ) → refusal n x ≡ r → k ≡ numberOf x → Gives n r (bitsOf out) (bitsOf out) k
+  refuses-doubles room r x k e w = refuses n (bitsOf out) (room-bits room) r x k e w

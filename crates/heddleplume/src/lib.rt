@@ -2,12 +2,15 @@
 // slice; on a refusal it writes nothing. A slice with fewer elements than the values gets 2.
 ghost use mathlib.Core.Path.{_≡_};
 ghost use mathlib.Core.List.{[], _∷_, _++_};
-ghost use Prim.Native.Nat.{_≤_};
+ghost use Prim.Native.Nat.{_+_, _≤_};
 ghost use lib.ListN.{length, drop};
 ghost use Rattle.faceijk.specs.Entries.{turnReply, stepReply, crossReply, settleReply, directionReply, sameReply};
-ghost use Rattle.vec2d.specs.Points.{point};
+ghost use Rattle.vec2d.specs.Points.{point, saidPointed};
+ghost use Rattle.coordijk.specs.Coordinates.{coord};
 ghost use Rattle.vec2d.specs.Rounding.{roundReply};
-ghost use Rattle.heddleplume.specs.Lent.{Gives, at};
+ghost use Rattle.vec2d.specs.Centre.{centreReply};
+ghost use Rattle.heddleplume.specs.Lent.{Gives, bitsOf, at, lineAt, linesReply};
+use coordijk::CoordIJK;
 use faceijk::Crossed;
 use faceijk::Directed;
 use faceijk::Moved;
@@ -16,6 +19,8 @@ use faceijk::SameCorner;
 use faceijk::Settled;
 use level::GridLevel;
 use reply::Refusal;
+use vec2d::Line;
+use vec2d::Pointed;
 use vec2d::Rounded;
 use vec2d::Vec2d;
 
@@ -24,6 +29,14 @@ fn put1(out: &mut [u32], a: u32)
     ensures { λ _. ⌜ now (out .exit) ≡ (a ∷ []) ++ drop 1 (now (out .entry)) ⌝ }
 {
     out[0] = a;
+}
+
+fn put2(out: &mut [f64], a: f64, b: f64)
+    requires { ⌜ 2 ≤ length (now out) ⌝ }
+    ensures { λ _. ⌜ now (out .exit) ≡ (a ∷ b ∷ []) ++ drop 2 (now (out .entry)) ⌝ }
+{
+    out[0] = a;
+    out[1] = b;
 }
 
 fn put3(out: &mut [u32], a: u32, b: u32, c: u32)
@@ -82,6 +95,61 @@ pub extern "C" fn heddleplume_round(x: f64, y: f64, out: &mut [u32]) -> u32
             0
         }
         Rounded::Refused(refusal) => refusal.number(),
+    }
+}
+
+// The centre of a hexagon: x, y.
+#[no_mangle]
+pub extern "C" fn heddleplume_centre(i: u32, j: u32, k: u32, out: &mut [f64]) -> u32
+    ensures { λ r. ⌜ Gives 2 (centreReply (coord i j k)) (bitsOf (now (out .entry))) (bitsOf (now (out .exit))) r ⌝ }
+{
+    if out.len() < 2 {
+        return Refusal::BadRows.number();
+    }
+    let pointed = Vec2d::centre(CoordIJK::new(i, j, k));
+    match pointed {
+        Pointed::Done(v) => {
+            put2(out, v.x, v.y);
+            0
+        }
+        Pointed::Refused(refusal) => refusal.number(),
+    }
+}
+
+fn line_at(lines: &[f64], at: usize) -> Line
+    requires { ⌜ at + 4 ≤ length (now lines) ⌝ }
+    ensures { λ r. ⌜ r ≡ lineAt (now (lines .entry)) at ⌝ }
+{
+    Line {
+        from: Vec2d::new(lines[at], lines[at + 1]),
+        to: Vec2d::new(lines[at + 2], lines[at + 3]),
+    }
+}
+
+fn met(lines: &[f64]) -> Pointed
+    ensures { λ r. ⌜ saidPointed r ≡ linesReply (now (lines .entry)) ⌝ }
+{
+    if lines.len() != 8 {
+        return Pointed::Refused(Refusal::BadRows);
+    }
+    line_at(lines, 0).meet(line_at(lines, 4))
+}
+
+// Where two lines meet: x, y. The lines are eight doubles, x and y of the first from and to, then of the second.
+#[no_mangle]
+pub extern "C" fn heddleplume_meet(lines: &[f64], out: &mut [f64]) -> u32
+    ensures { λ r. ⌜ Gives 2 (linesReply (now (lines .entry))) (bitsOf (now (out .entry))) (bitsOf (now (out .exit))) r ⌝ }
+{
+    if out.len() < 2 {
+        return Refusal::BadRows.number();
+    }
+    let pointed = met(lines);
+    match pointed {
+        Pointed::Done(v) => {
+            put2(out, v.x, v.y);
+            0
+        }
+        Pointed::Refused(refusal) => refusal.number(),
     }
 }
 

@@ -2,6 +2,7 @@
 mod chance;
 mod ours;
 mod places;
+mod plane;
 mod round;
 
 /// How many questions of one kind were asked, and how many answers differed.
@@ -27,8 +28,10 @@ impl Tally {
 
 fn main() {
     let mut bad = false;
-    let questions: [(&str, fn(&mut Tally)); 7] = [
+    let questions: [(&str, fn(&mut Tally)); 9] = [
         ("round", round::run),
+        ("centre", plane::run_centre),
+        ("meet", plane::run_meet),
         ("direction", places::run_direction),
         ("turn", places::run_turn),
         ("step", places::run_step),

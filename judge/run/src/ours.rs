@@ -2,6 +2,8 @@
 
 unsafe extern "C" {
     fn heddleplume_round(x: f64, y: f64, out: *mut u32, len: usize) -> u32;
+    fn heddleplume_centre(i: u32, j: u32, k: u32, out: *mut f64, len: usize) -> u32;
+    fn heddleplume_meet(lines: *const f64, lines_len: usize, out: *mut f64, len: usize) -> u32;
     fn heddleplume_direction(from: u32, to: u32, out: *mut u32, len: usize) -> u32;
     fn heddleplume_turn(face: u32, i: u32, j: u32, k: u32, clockwise: bool, out: *mut u32, len: usize) -> u32;
     fn heddleplume_step(face: u32, i: u32, j: u32, k: u32, level: u32, substrate: bool, edge: u32, out: *mut u32, len: usize) -> u32;
@@ -38,6 +40,24 @@ fn asked<const N: usize, const M: usize>(call: impl Fn(*mut u32, usize) -> u32) 
     let number = call(out.as_mut_ptr(), M);
     assert_eq!(out[N], UNTOUCHED, "an element past the values was written");
     Said { number, values: std::array::from_fn(|n| out[n].into()) }
+}
+
+/// The same for doubles, which are compared by their bits.
+fn asked_doubles<const N: usize, const M: usize>(call: impl Fn(*mut f64, usize) -> u32) -> Said<N> {
+    const { assert!(M == N + 1) };
+    let untouched = f64::from_bits(UNTOUCHED.into());
+    let mut out = [untouched; M];
+    let number = call(out.as_mut_ptr(), M);
+    assert_eq!(out[N].to_bits(), u64::from(UNTOUCHED), "an element past the values was written");
+    Said { number, values: std::array::from_fn(|n| out[n].to_bits()) }
+}
+
+pub fn centre((i, j, k): (u32, u32, u32)) -> Said<2> {
+    asked_doubles::<2, 3>(|out, len| unsafe { heddleplume_centre(i, j, k, out, len) })
+}
+
+pub fn meet(lines: &[f64]) -> Said<2> {
+    asked_doubles::<2, 3>(|out, len| unsafe { heddleplume_meet(lines.as_ptr(), lines.len(), out, len) })
 }
 
 /// A place: face, i, j, k.

@@ -1,0 +1,58 @@
+-- A place that is given out is accepted by every entry that takes a place. Assumes nothing.
+use mathlib.Core.Path.{_≡_, refl, sym, ap, subst, _∙_}
+use mathlib.Core.Bool.{Bool, true, false}
+use mathlib.Core.List.{List, [], _∷_}
+use Prim.Native.Nat.{ℕ, _<_, _≤_}
+use native.Mathlib.Nat.{le-of-suc-le-suc}
+use borrow.Author.Tests.{le-ltb}
+use lib.Ieee.{Float}
+use Rattle.reply.specs.declared.Verdict.the-variants.{Fine}
+use Rattle.reply.specs.declared.Refusal.the-variants.{BadNumber, OffSphere, Behind, TooFar}
+use Rattle.reply.specs.Replies.{first}
+use Rattle.reply.proofs.Entries.{answered, passed}
+use Rattle.coordijk.proofs.Taking.{passes}
+use Rattle.vec2d.specs.Rounding.{tooFar, nearestOf}
+use Rattle.vec2d.proofs.Taken.{rounded-taken}
+use Rattle.vec3d.specs.declared.Vec3d.{Vec3d}
+use Rattle.vec3d.specs.Vectors.{badNumber, offSphere, vectorVerdict}
+use Rattle.face_projection.specs.Projection.{behind}
+use Rattle.faceijk.specs.declared.Place.{Place}
+use Rattle.faceijk.specs.Places.{coordOf, placeValues, placeVerdict, Okay}
+use Rattle.locate.specs.declared.Located.{Located}
+use Rattle.locate.specs.declared.Located.the-variants.{Done, Refused}
+use Rattle.locate.specs.Locating.{Passed, Entered, nearAxes, nearPoint, placeOf, frontReasons, rowVerdict, rowReply, saidLocated}
+use Rattle.locate.specs.Batch.{Given}
+use Rattle.locate.proofs.Entering.{near-low, front-verdict}
+
+pub same-place : (p q : Place) → placeValues p ≡ placeValues q → p ≡ q
+same-place p q e =
+    let f : p .face ≡ q .face = cc in
+    let i : p .i ≡ q .i = cc in
+    let j : p .j ≡ q .j = cc in
+    let k : p .k ≡ q .k = cc in
+    λ n. record { face = f n; i = i n; j = j n; k = k n }
+
+module _ (s : List Float) (l : ℕ) (p : Vec3d) (ready : Passed s l) where
+  -- Where no test refuses, the place has a face below 20, is reduced, and has no coordinate above 2^26.
+  pub placed-okay : rowVerdict s l p ≡ Fine → Okay (placeOf s l p)
+  unfolding placeOf
+  placed-okay e =
+      let n = passed (badNumber p) BadNumber _ e in
+      let o = passed (offSphere p) OffSphere _ (n .1) in
+      let b = passed (behind (nearAxes s p) p) Behind _ (o .1) in
+      let fine : vectorVerdict p ≡ Fine = simp (n .0, o .0) in
+      let entered : Entered s l p = record { frame = ready .frame; level = ready .level; vector = fine } in
+      record { on = near-low s l p entered; taken = rounded-taken (nearPoint s l p) (front-verdict s l p entered (b .0) ∙ o .1) }
+
+  -- So every place that is given out has these properties.
+  pub given-okay : (r : Located) → saidLocated r ≡ rowReply s l p → Given r
+  given-okay (Done q) e =
+      let a = answered 4 (rowVerdict s l p) (placeValues q) (placeValues (placeOf s l p)) e in
+      subst Okay (sym (same-place q (placeOf s l p) (a .1))) (placed-okay (a .0))
+  given-okay (Refused r) e = tt
+
+  -- In the words of the entries that take a place: their tests find nothing.
+  pub given-fine : rowVerdict s l p ≡ Fine → placeVerdict (placeOf s l p) ≡ Fine
+  given-fine e =
+      let o = placed-okay e in
+      rw (le-ltb 19 (placeOf s l p .face) (le-of-suc-le-suc (o .on)), passes (coordOf (placeOf s l p)) (o .taken))

@@ -1,0 +1,9 @@
+pub mod Entering
+pub mod Signed
+pub mod Placing
+pub mod Giving
+pub mod Near
+pub mod Writing
+pub mod RowByRow
+pub mod Order
+pub mod Unique

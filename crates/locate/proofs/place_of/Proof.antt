@@ -1,0 +1,37 @@
+-- `place_of` meets its contract: the vector's tests come first. Assumes nothing.
+use borrow.Author.Needs.{needs}
+use mathlib.Core.Path.{sym, ap, _∙_}
+use Rattle.reply.specs.declared.Verdict.{Verdict}
+use Rattle.reply.specs.Replies.{reply}
+use Rattle.reply.proofs.Entries.{refuses}
+use Rattle.vec3d.specs.Vectors.{vectorReasons}
+use Rattle.vec3d.proofs.Series.{series-fine, series-refused}
+use Rattle.faceijk.specs.Places.{placeValues}
+use Rattle.locate.specs.Locating.{placeOf, frontReasons}
+use Rattle.locate.proofs.place_of.Statement.{statement}
+use Rattle.locate.proofs.place_of.Tie as tie
+
+on-nearest-requires : tie.Need-on-nearest-requires
+on-nearest-requires c κs =
+    let start = c .before .before .before .before in
+    record { frame = start .pre .frame; level = start .pre .level; vector = sym (c .before .before .verdict .ensures) ∙ c .enum-told .given .1 }
+
+returns : tie.Need-returns
+returns c =
+    let a = c .before .before .before .before .before .args in
+    let fine = sym (c .before .before .before .verdict .ensures) ∙ c .before .enum-told .given .1 in
+    c .on-nearest .ensures
+    ∙ ap (λ (v : Verdict). reply 4 v (placeValues (placeOf (a .frame .now) (a .level) (a .p))))
+    (sym (series-fine (vectorReasons (a .p)) (frontReasons (a .frame .now) (a .level) (a .p)) fine))
+
+returns-2 : tie.Need-returns-2
+returns-2 c =
+    let a = c .before .before .before .before .before .args in
+    refuses 4 _ _ _
+    (series-refused (vectorReasons (a .p)) (frontReasons (a .frame .now) (a .level) (a .p)) _
+    (sym (c .before .before .before .verdict .ensures) ∙ c .before .verdict2 .given .1))
+
+pub place-of-spec : {M : Type 1} → statement M
+place-of-spec =
+    tie.close
+    (tie.spec (λ c κs. search needs) (λ c. search needs) on-nearest-requires (λ c. search needs) returns returns-2)

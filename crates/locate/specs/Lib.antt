@@ -1,0 +1,3 @@
+pub mod Locating
+pub mod Rows
+pub mod Batch

@@ -1,0 +1,88 @@
+-- What the nearest of the faces 0 .. f is: one of them, none is strictly nearer, and each lower one is strictly farther. Assumes nothing.
+use mathlib.Core.Path.{_≡_, refl, sym, ap, subst}
+use mathlib.Core.Bool.{Bool, true, false}
+use mathlib.Core.Logic.{⊎-elim}
+use mathlib.Core.List.{List}
+use Prim.Native.Nat.{ℕ, zero, suc, _≤_, _<_, zero-le}
+use native.Mathlib.Nat.{le-refl, le-suc, le-trans, le-of-suc-le-suc, eq-or-lt-of-le, not-suc-le-zero}
+use native.Mathlib.Omega.{arith}
+use lib.Ieee.{Float, lt}
+use Rattle.reply.specs.Choice.{pick}
+use Rattle.double.specs.Double.{finite}
+use Rattle.vec3d.specs.declared.Vec3d.{Vec3d}
+use Rattle.vec3d.specs.declared.Nearest.{Nearest}
+use Rattle.vec3d.specs.Vectors.{badNumber, offSphere}
+use Rattle.vec3d.specs.Frame.{badFrame}
+use Rattle.vec3d.specs.Nearest.{distanceOf, closerOf, nearestTo}
+use Rattle.vec3d.proofs.Sizes.{distance-under}
+use Rattle.vec3d.proofs.Comparing.{below-all, not-both, not-itself}
+
+-- what holds of both holds of the one that a test picks
+either : {A : Type 0} (P : A → Type 0) (b : Bool) {x y : A} → P x → P y → P (pick b x y)
+either P true p q = p
+either P false p q = q
+
+pub nearest-in : (s : List Float) (p : Vec3d) (f : ℕ) → nearestTo s p f .face ≤ f
+unfolding nearestTo closerOf
+nearest-in s p zero = zero-le
+nearest-in s p (suc f) =
+    either (λ (b : Nearest). b .face ≤ suc f) (lt (distanceOf s p (suc f)) (nearestTo s p f .distance))
+    (le-refl (suc f)) (le-trans (nearest-in s p f) (le-suc f))
+
+-- of distances d, one a face, the face and distance that the paper names among the faces 0 .. f
+pub record Wins (d : ℕ → Float) (f : ℕ) (best : Nearest) : Type 0 where
+  pub within : best .face ≤ f
+  pub own : best .distance ≡ d (best .face)
+  pub least : (k : ℕ) → k ≤ f → lt (d k) (best .distance) ≡ false
+  pub lowest : (k : ℕ) → k < best .face → lt (best .distance) (d k) ≡ true
+
+module _ (d : ℕ → Float) (f : ℕ) (known : (k : ℕ) → k ≤ suc f → finite (d k) ≡ true) (best : Nearest) (w : Wins d f best) where
+  best-finite : finite (best .distance) ≡ true
+  best-finite = subst (λ (x : Float). finite x ≡ true) (sym (w .own)) (known (best .face) (le-trans (w .within) (le-suc f)))
+
+  -- a new face that is strictly nearer is strictly nearer than all before it
+  beats : lt (d (suc f)) (best .distance) ≡ true → (k : ℕ) → k ≤ f → lt (d (suc f)) (d k) ≡ true
+  beats e k h = below-all (d (suc f)) (best .distance) (d k) (known (suc f) (le-refl (suc f))) best-finite (known k (le-trans h (le-suc f))) e (w .least k h)
+
+  new-wins : lt (d (suc f)) (best .distance) ≡ true → Wins d (suc f) (record { face = suc f; distance = d (suc f) })
+  new-wins e =
+      record {
+        within = le-refl (suc f);
+        own = refl;
+        least = λ k h. ⊎-elim (λ q. subst (λ (i : ℕ). lt (d i) (d (suc f)) ≡ false) (sym q) (not-itself (d (suc f)) (known (suc f) (le-refl (suc f)))))
+            (λ l. not-both (d (suc f)) (d k) (known (suc f) (le-refl (suc f))) (known k h) (beats e k (le-of-suc-le-suc l))) (eq-or-lt-of-le h);
+        lowest = λ k h. beats e k (le-of-suc-le-suc h);
+      }
+
+  old-wins : lt (d (suc f)) (best .distance) ≡ false → Wins d (suc f) best
+  old-wins e =
+      record {
+        within = le-trans (w .within) (le-suc f);
+        own = w .own;
+        least = λ k h. ⊎-elim (λ q. subst (λ (i : ℕ). lt (d i) (best .distance) ≡ false) (sym q) e) (λ l. w .least k (le-of-suc-le-suc l)) (eq-or-lt-of-le h);
+        lowest = w .lowest;
+      }
+
+  closer-wins : Wins d (suc f) (closerOf best (suc f) (d (suc f)))
+  unfolding closerOf
+  closer-wins = go (lt (d (suc f)) (best .distance)) new-wins old-wins
+    where
+      go : (b : Bool) → (b ≡ true → Wins d (suc f) (record { face = suc f; distance = d (suc f) })) → (b ≡ false → Wins d (suc f) best)
+          → Wins d (suc f) (pick b (record { face = suc f; distance = d (suc f) }) best)
+      go true yes-new no-new = yes-new refl
+      go false yes-new no-new = no-new refl
+
+wins : (s : List Float) (p : Vec3d) (f : ℕ) → ((k : ℕ) → k ≤ f → finite (distanceOf s p k) ≡ true) → Wins (distanceOf s p) f (nearestTo s p f)
+unfolding nearestTo
+wins s p zero known =
+    record {
+      within = le-refl zero;
+      own = refl;
+      least = λ k h. subst (λ (i : ℕ). lt (distanceOf s p i) (distanceOf s p 0) ≡ false) (omega arith) (not-itself (distanceOf s p 0) (known 0 zero-le));
+      lowest = λ k h. absurd (not-suc-le-zero h);
+    }
+wins s p (suc f) known = closer-wins (distanceOf s p) f known (nearestTo s p f) (wins s p f (λ k h. known k (le-trans h (le-suc f))))
+
+-- With a frame and a vector that pass, no face is strictly nearer than the one named, and each lower face is strictly farther.
+pub nearest-wins : (s : List Float) (p : Vec3d) → badFrame s ≡ false → badNumber p ≡ false → offSphere p ≡ false → Wins (distanceOf s p) 19 (nearestTo s p 19)
+nearest-wins s p e b o = wins s p 19 (λ k h. distance-under s p k e b o (omega arith) .number)

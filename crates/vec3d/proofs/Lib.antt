@@ -1,0 +1,7 @@
+pub mod Series
+pub mod Passing
+pub mod Sizes
+pub mod Comparing
+pub mod Choosing
+pub mod Order
+pub mod Unique

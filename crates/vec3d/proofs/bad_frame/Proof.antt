@@ -1,0 +1,18 @@
+-- `bad_frame` meets its contract: the length is tested first, then the numbers and the faces. Assumes nothing.
+use borrow.Author.Tests.{eq-eqb, ne-eqb}
+use Rattle.vec3d.specs.Frame.{badFrame}
+use borrow.Author.Needs.{needs}
+use Rattle.vec3d.proofs.bad_frame.Statement.{statement}
+use Rattle.vec3d.proofs.bad_frame.Tie as tie
+
+returns : tie.Need-returns
+unfolding badFrame
+returns c = rw (ne-eqb _ _ (c .if1 .taken))
+
+returns-2 : tie.Need-returns-2
+unfolding badFrame
+returns-2 c = rw (eq-eqb _ _ (c .before .before .if1 .left), c .before .non-finite .ensures, c .some-bad-axes .ensures)
+
+pub bad-frame-spec : {M : Type 1} → statement M
+bad-frame-spec = tie.close
+    (tie.spec returns (λ c κs. search needs) (λ c κs. search needs) returns-2)

@@ -1,0 +1,4 @@
+pub mod Vectors
+pub mod Frame
+pub mod Nearest
+pub mod Sizes

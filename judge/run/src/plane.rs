@@ -1,0 +1,66 @@
+//! Plane points: the centre of a hexagon and `Vec2d::intersection` of the Rust beside the proved ones, bit for bit.
+use crate::{Tally, chance::Chance, ours, ours::Said};
+use h3o::coord::{CoordIJK, Vec2d};
+
+fn said(v: Vec2d) -> Said<2> {
+    Said::done([v.x.to_bits(), v.y.to_bits()])
+}
+
+pub fn run_centre(tally: &mut Tally) {
+    let mut c = Chance(7);
+    let mut ask = |i: u32, j: u32, k: u32| {
+        let taken = i.min(j).min(k) == 0 && i.max(j).max(k) <= 1 << 26;
+        let theirs = if taken { said(CoordIJK::new(i as i32, j as i32, k as i32).into()) } else { Said::refused(10) };
+        tally.same(ours::centre((i, j, k)), theirs, || format!("centre {i} {j} {k}"));
+    };
+    for i in 0..60 {
+        for j in 0..60 {
+            for k in 0..60 {
+                ask(i, j, k);
+            }
+        }
+    }
+    for _ in 0..4_000_000 {
+        let (a, b) = (c.below((1 << 26) + 3) as u32, c.below((1 << 26) + 3) as u32 >> c.below(27));
+        match c.below(4) {
+            0 => ask(a, b, 0),
+            1 => ask(0, a, b),
+            2 => ask(b, 0, a),
+            _ => ask(a, b, c.below(2) as u32),
+        }
+    }
+}
+
+/// 6 for a number that is none, 13 where the divisor is zero or a result not finite, else what the Rust says.
+fn expected(l: &[f64; 8]) -> Said<2> {
+    if l.iter().any(|x| !x.is_finite()) {
+        return Said::refused(6);
+    }
+    let (s1, s2) = ((l[2] - l[0], l[3] - l[1]), (l[6] - l[4], l[7] - l[5]));
+    let divisor = -s2.0 * s1.1 + s1.0 * s2.1;
+    let at = |n: usize| Vec2d::new(l[n], l[n + 1]);
+    let met = Vec2d::intersection((at(0), at(2)), (at(4), at(6)));
+    if divisor == 0. || !met.x.is_finite() || !met.y.is_finite() {
+        return Said::refused(13);
+    }
+    said(met)
+}
+
+pub fn run_meet(tally: &mut Tally) {
+    let mut c = Chance(8);
+    let mut ask = |l: [f64; 8]| tally.same(ours::meet(&l), expected(&l), || format!("meet {l:?}"));
+    let small = [0., -0., 1., -1., 0.5, 2., 1e300, -1e300, f64::MIN_POSITIVE, f64::INFINITY, f64::NAN];
+    for _ in 0..2_000_000 {
+        ask(std::array::from_fn(|_| small[c.below(small.len() as u64) as usize]));
+    }
+    for _ in 0..2_000_000 {
+        ask(std::array::from_fn(|_| f64::from_bits(c.bits())));
+    }
+    for _ in 0..6_000_000 {
+        let size = f64::from_bits((1023 + c.below(28)) << 52);
+        ask(std::array::from_fn(|_| c.unit() * size));
+    }
+    for n in [0, 1, 7, 9, 16] {
+        tally.same(ours::meet(&vec![1.; n]), Said::refused(2), || format!("meet with {n} doubles"));
+    }
+}
