@@ -3,7 +3,9 @@ ghost use mathlib.Core.Path.{_≡_};
 ghost use lib.ListN.{length};
 
 // Twenty faces of nine doubles: centre, u, v.
-const FRAME: [f64; 180] = [
+pub type Frame = [f64; 180];
+
+const FRAME: Frame = [
     0.2199307791404606,
     0.6583691780274996,
     0.7198475378926182,
@@ -186,7 +188,7 @@ const FRAME: [f64; 180] = [
     0.9087301244905307,
 ];
 
-pub fn default_frame() -> [f64; 180]
+pub fn default_frame() -> Frame
     ensures { λ r. ⌜ 180 ≡ length r ⌝ }
 {
     FRAME

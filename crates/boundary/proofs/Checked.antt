@@ -1,0 +1,28 @@
+-- The starred places of document 01 under "Corners" hold of the definitions, all of them together; and one boundary, bit for bit. Assumes nothing.
+use mathlib.Core.Path.{_≡_, refl}
+use mathlib.Core.List.{map}
+use lib.ListN.{length, take}
+use lib.Ieee.{ofBits, toBits, add, sub, mul, div, neg, lt, le, eq, ofInt, round}
+use Rattle.level.specs.Levels.{unitOf, limitOf}
+use Rattle.coordijk.specs.Coordinates.{reduced}
+use Rattle.coordijk.specs.Maps.{mapOf, turnsOf}
+use Rattle.faceijk.specs.Steps.{moveOver, stepOf}
+use Rattle.faceijk.specs.Crossing.{stepOut, crossingOf}
+use Rattle.double.specs.Double.{mulAdd}
+use Rattle.vec2d.specs.Points.{isPoint}
+use Rattle.vec2d.specs.Centre.{centreOf}
+use Rattle.vec2d.specs.Meeting.{along, divisorOf, shareOf, reachedOf, crossingOf as meetingOf, metOf}
+use Rattle.vec2d.specs.Closeness.{close}
+use Rattle.boundary.specs.Corners.{throughApertures, cornerOf, sixCorners}
+use Rattle.boundary.specs.Landing.{cellOf, landFrom, landAt}
+use Rattle.boundary.specs.CrossingPoints.{edgeLine, crossAt, awayFace, hexagonCrossing, crossingBetween, beforeAt}
+use Rattle.boundary.specs.Boundaries.{pointsIn, pointsTo, verdictTo, boundaryVerdict, boundaryPoints, padded}
+use Rattle.boundary.specs.Checked.{Case, starred, crossed}
+
+pub starred-right : map (λ (c : Case). take (length (c .first)) (c .asked .values)) starred ≡ map (λ (c : Case). c .first) starred
+unfolding reduced mapOf throughApertures cornerOf sixCorners
+starred-right = refl
+
+pub crossed-right : take (length (crossed .first)) (crossed .asked .values) ≡ crossed .first
+unfolding reduced mapOf turnsOf throughApertures cornerOf unitOf limitOf moveOver stepOf stepOut crossingOf isPoint centreOf along divisorOf shareOf reachedOf meetingOf metOf mulAdd close cellOf landFrom landAt edgeLine crossAt awayFace hexagonCrossing crossingBetween beforeAt pointsIn pointsTo verdictTo boundaryVerdict boundaryPoints padded ofBits toBits add sub mul div neg lt le eq ofInt round
+crossed-right = refl

@@ -1,0 +1,5 @@
+pub mod Corners
+pub mod Landing
+pub mod CrossingPoints
+pub mod Boundaries
+pub mod Checked
