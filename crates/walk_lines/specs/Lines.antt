@@ -1,0 +1,82 @@
+-- The lines that `walk` prints, as bytes: the fixed words, numbers in decimal, one space before each number, a newline at the end.
+use mathlib.Core.Path.{_≡_}
+use mathlib.Core.List.{List, [], _∷_, _++_}
+use Prim.Native.Nat.{ℕ, zero, suc, _+_, _/_, _%_}
+use lib.Dec.{ltb}
+use lib.ListN.{length, take}
+use Rattle.reply.specs.Choice.{pick}
+use Rattle.reply.specs.declared.Refusal.{Refusal}
+use Rattle.reply.specs.Replies.{numberOf}
+use Rattle.faceijk.specs.declared.Place.{Place}
+use Rattle.faceijk.specs.declared.Rested.{Rested}
+use Rattle.walk_lines.specs.declared.Line.{Line}
+use Rattle.walk_lines.specs.declared.Text.{Text}
+
+-- the byte of a digit
+abbrev pub digit : ℕ → ℕ
+digit d = 48 + d
+
+-- a number in decimal, by t digits at the most: the digits of its tenth, then its last one
+unfoldable pub digitsTo : ℕ → ℕ → List ℕ
+digitsTo zero n = []
+digitsTo (suc t) n = pick (ltb n 10) (digit n ∷ []) (digitsTo t (n / 10) ++ digit (n % 10) ∷ [])
+
+-- n + 1 digits are always enough
+unfoldable pub decimal : ℕ → List ℕ
+decimal n = digitsTo (suc n) n
+
+-- the bytes of from, over, rest and refused, of a space and of a newline
+abbrev pub fromWord : List ℕ
+fromWord = 102 ∷ 114 ∷ 111 ∷ 109 ∷ []
+
+abbrev pub overWord : List ℕ
+overWord = 111 ∷ 118 ∷ 101 ∷ 114 ∷ []
+
+abbrev pub restWord : List ℕ
+restWord = 114 ∷ 101 ∷ 115 ∷ 116 ∷ []
+
+abbrev pub refusedWord : List ℕ
+refusedWord = 114 ∷ 101 ∷ 102 ∷ 117 ∷ 115 ∷ 101 ∷ 100 ∷ []
+
+abbrev pub space : ℕ
+space = 32
+
+abbrev pub newline : ℕ
+newline = 10
+
+-- one space between, and a number
+unfoldable pub field : ℕ → List ℕ
+field n = space ∷ decimal n
+
+unfoldable pub placeFields : Place → List ℕ
+placeFields p = field (p .face) ++ (field (p .i) ++ (field (p .j) ++ field (p .k)))
+
+-- the lines
+unfoldable pub placeLine : List ℕ → Place → List ℕ
+placeLine word p = word ++ (placeFields p ++ newline ∷ [])
+
+unfoldable pub restLine : Rested → List ℕ
+restLine s = restWord ++ (placeFields (s .place) ++ (field (s .steps) ++ newline ∷ []))
+
+unfoldable pub refusedLine : Refusal → List ℕ
+refusedLine r = refusedWord ++ (field (numberOf r) ++ newline ∷ [])
+
+abbrev pub lineText : Line → List ℕ
+lineText (Line.From p) = placeLine fromWord p
+lineText (Line.Over p) = placeLine overWord p
+lineText (Line.Rest s) = restLine s
+lineText (Line.Refused r) = refusedLine r
+
+-- the bytes of a text that is being built
+abbrev pub bytesOf : Text → List ℕ
+bytesOf t = take (t .len) (t .bytes)
+
+-- x was put after what the text had
+pub record Put (t : Text) (x : List ℕ) (r : Text) : Type 0 where
+  pub count : r .len ≡ t .len + length x
+  pub bytes : bytesOf r ≡ bytesOf t ++ x
+
+-- the text is x
+pub record Spells (x : List ℕ) (r : Text) : Type 0 where
+  pub count : r .len ≡ length x
+  pub bytes : bytesOf r ≡ x
