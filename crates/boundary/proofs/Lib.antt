@@ -1,3 +1,4 @@
+-- Laws of `boundary`: corners and boundaries: counts, faces, refusals, beginnings, unique answers.
 pub mod Apertures
 pub mod Unwrapped
 pub mod Asked

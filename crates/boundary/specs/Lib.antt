@@ -1,3 +1,4 @@
+-- Definitions of `boundary`: corners, landing, crossing points, boundaries.
 pub mod Corners
 pub mod Landing
 pub mod CrossingPoints

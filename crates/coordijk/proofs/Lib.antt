@@ -1,3 +1,4 @@
+-- Laws of `coordijk`: reducing, distance, turns, scales, unique answers.
 pub mod Reducing
 pub mod Taking
 pub mod Distance

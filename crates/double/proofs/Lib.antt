@@ -1,3 +1,4 @@
+-- Laws of `double`: doubles that more than one crate needs: sizes, leftovers, bits.
 pub mod Literals
 pub mod Sign
 pub mod Sizes

@@ -1,2 +1,3 @@
+-- Definitions of `double`: doubles: constants, sizes, whole parts.
 pub mod Double
 pub mod Sizes

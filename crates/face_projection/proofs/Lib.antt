@@ -1,3 +1,4 @@
+-- Laws of `face_projection`: the projection: finite, near, in order.
 pub mod Tables
 pub mod Entering
 pub mod Units

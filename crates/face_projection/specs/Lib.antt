@@ -1,1 +1,2 @@
+-- Definitions of `face_projection`: from a unit vector to a plane point.
 pub mod Projection

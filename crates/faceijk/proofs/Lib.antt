@@ -1,3 +1,4 @@
+-- Laws of `faceijk`: places: the tables, steps, demand 3, the starred places, unique answers.
 pub mod Faces
 pub mod Stepping
 pub mod Taking

@@ -1,3 +1,4 @@
+-- Definitions of `faceijk`: places: faces, steps, crossing, settling, and the entries in the paper's numbers.
 pub mod Places
 pub mod Faces
 pub mod Steps

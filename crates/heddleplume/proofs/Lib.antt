@@ -1,1 +1,2 @@
+-- Laws of `heddleplume`: the three ways in which a C function ends.
 pub mod Lent

@@ -1,1 +1,2 @@
+-- Laws of `in_place`: a lent place: stored or unchanged.
 pub mod Lending

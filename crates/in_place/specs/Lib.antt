@@ -1,1 +1,2 @@
+-- Definitions of `in_place`: settling on a lent place.
 pub mod Lent

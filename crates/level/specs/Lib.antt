@@ -1,1 +1,2 @@
+-- Definitions of `level`: levels: which are taken, unit scale and limit.
 pub mod Levels

@@ -1,3 +1,4 @@
+-- Laws of `locate`: places given out, rows of a batch one by one, unique answers.
 pub mod Entering
 pub mod Signed
 pub mod Placing

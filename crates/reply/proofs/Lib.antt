@@ -1,3 +1,4 @@
+-- Laws of `reply`: refusals: their numbers, what an entry says, the smallest.
 pub mod Tests
 pub mod Numbers
 pub mod Entries

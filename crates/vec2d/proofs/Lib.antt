@@ -1,3 +1,4 @@
+-- Laws of `vec2d`: rounding, its range and leftovers, the checked places, unique answers.
 pub mod Differences
 pub mod Folding
 pub mod Whole

@@ -1,3 +1,4 @@
+-- Definitions of `vec2d`: plane points: rounding, centre, meeting, near-equality.
 pub mod Points
 pub mod Rounding
 pub mod Checked

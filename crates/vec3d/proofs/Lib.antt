@@ -1,3 +1,4 @@
+-- Laws of `vec3d`: the frame's test, sizes, the nearest face, unique answers.
 pub mod Series
 pub mod Passing
 pub mod Sizes

@@ -1,3 +1,4 @@
+-- Definitions of `vec3d`: unit vectors, the frame, the nearest face.
 pub mod Vectors
 pub mod Frame
 pub mod Nearest

@@ -1,1 +1,2 @@
+-- Definitions of `walk_question`: the line that asks for a walk.
 pub mod Reading
