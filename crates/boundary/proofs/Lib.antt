@@ -4,6 +4,7 @@ pub mod Unwrapped
 pub mod Asked
 pub mod Cells
 pub mod Landing
+pub mod Staying
 pub mod Faces
 pub mod Padding
 pub mod Counting

@@ -140,6 +140,7 @@ withinOf s n =
 pub record Solid (s : Shape) : Type 0 where
   pub on : s .cell .centre .face < 20
   pub level : badGrid (s .cell .level .0) ≡ false
+  pub limit : s .cell .m ≡ limitOf (s .cell .level .0) false
   pub some : 0 < s .cell .m
   pub low : s .cell .m ≤ 11529602
   pub many : 5 ≤ s .sides

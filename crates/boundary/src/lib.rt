@@ -314,10 +314,17 @@ fn settled_at(corner: Place, level: GridLevel) -> Landed
     }
 }
 
-fn land_from(sides: u32, corner: Place, level: GridLevel) -> Landed
-    requires { ⌜ Okay corner × (badGrid (level .0) ≡ false) ⌝ }
+// A corner within the limit, three times m, stays where it is; the others go the way of their shape.
+fn land_from(sides: u32, corner: Place, level: GridLevel, m: u32) -> Landed
+    requires { ⌜ Okay corner × (badGrid (level .0) ≡ false) × (m ≡ limitOf (level .0) false) × (m ≤ 11529602) ⌝ }
     ensures { λ r. ⌜ r ≡ landFrom sides (substrateOf level) corner ⌝ }
 {
+    if corner.i + corner.j + corner.k < 3 * m {
+        return Landed {
+            place: corner,
+            overage: Overage::None,
+        };
+    }
     if sides == 5 {
         return settled_at(corner, level);
     }
@@ -536,7 +543,7 @@ impl Shape {
     {
         let c = self.cell.corner(self.vertex(k));
         let corner = Place::new(self.cell.centre.face, c.i, c.j, c.k);
-        land_from(self.sides, corner, self.cell.level)
+        land_from(self.sides, corner, self.cell.level, self.cell.m)
     }
 
     // What stands before the corner at turn k.

@@ -19,7 +19,7 @@ okay c =
     rw (c .new .ensures, c .before .corner .ensures) (corner-okay _ _ (v .before .pre .0) (low v))
 
 land-from-requires : tie.Need-land-from-requires
-land-from-requires c κs = (okay c, c .before .before .before .pre .0 .solid .level)
+land-from-requires c κs = let solid = c .before .before .before .pre .0 .solid in (okay c, solid .level, solid .limit, solid .low)
 
 returns : tie.Need-returns
 unfolding landAt
