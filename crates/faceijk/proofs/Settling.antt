@@ -38,7 +38,7 @@ module _ (g : Grid) where
       go : (b : Bool) → b ≡ onEdge g p → after t p n (crossingOf false g p) ≡ rested p n
       go true e =
           sym (ap (after t p n) (stays-on-edge false g p true e refl)) ∙
-          ap (λ (x : Bool). rested p (pick x (n + 1) n)) (le-ltb (g .limit) (sumAt p) h)
+          simp (le-ltb (g .limit) (sumAt p) h)
       go false e = sym (ap (after t p n) (stays false g p false e refl h))
 
   -- beyond it, it steps and goes on
@@ -55,8 +55,7 @@ module _ (g : Grid) where
       go : (d : Bool) → d ≡ onEdge g q → after t p n (crossingOf false g p) ≡ settleFrom t g q (n + 1)
       go true e =
           sym (ap (after t p n) (came true e)) ∙
-          (ap (λ (x : Bool). rested q (pick x (n + 1) n)) (lt-ltb (g .limit) (sumAt p) h) ∙
-          sym (rests t q (n + 1) (omega (arith, edge-sum g q (sym e)))))
+          simp (lt-ltb (g .limit) (sumAt p) h) (sym (rests t q (n + 1) (omega (arith, edge-sum g q (sym e)))))
       go false e = sym (ap (after t p n) (came false e))
 
 -- a step beyond the limit, of a sound grid
