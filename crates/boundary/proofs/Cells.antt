@@ -53,4 +53,4 @@ pub solid : (sides : ℕ) (p : Place) (l start : ℕ) (c : Cell) → c ≡ cellO
 unfolding cellOf
 solid sides p l start c e on low many few begun =
     let b = level-taken l low in
-    rw e (record { on = on; level = b; limit = refl; some = plain-some (raisedOf l) b; low = plain-low (raisedOf l) b; many = many; few = few; begun = begun })
+    rw e (record { on = on; level = b; grid = refl; limit = refl; some = plain-some (raisedOf l) b; low = plain-low (raisedOf l) b; many = many; few = few; begun = begun })

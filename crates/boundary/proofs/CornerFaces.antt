@@ -17,13 +17,12 @@ use Rattle.faceijk.specs.declared.Place.{Place}
 use Rattle.faceijk.specs.Places.{coordOf, sumAt}
 use Rattle.faceijk.proofs.Taking.{sound-at}
 use Rattle.boundary.specs.declared.Shape.{Shape}
-use Rattle.boundary.specs.declared.Mark.the-variants.{Crossing}
 use Rattle.boundary.specs.declared.BoundaryPoint.{BoundaryPoint}
 use Rattle.boundary.specs.declared.Before.{Before}
 use Rattle.boundary.specs.declared.Before.the-variants.{Nothing, Point, Refused}
 use Rattle.boundary.specs.Corners.{classIII, throughApertures, cellReasons, cellVerdict}
 use Rattle.boundary.specs.Landing.{cellOf, substrateOf, cornerPlace, vertexOf, landAt, Reached}
-use Rattle.boundary.specs.CrossingPoints.{cornerPoint, beforeAt}
+use Rattle.boundary.specs.CrossingPoints.{aCrossing, cornerPoint, beforeAt}
 use Rattle.boundary.specs.Boundaries.{pointsBefore, cornersIn, pointsIn, pointsTo, badRange, outOfFace, boundaryReasons, askedShape, Fit}
 use Rattle.boundary.proofs.Asked.{asked}
 use Rattle.boundary.proofs.Cells.{solid, substrate-limit}
@@ -49,7 +48,7 @@ pub record CornerAt (s : Shape) (p : BoundaryPoint) : Type 0 where
   pub is : p ≡ cornerPoint q
 
 abbrev pub Placed : Shape → BoundaryPoint → Type 0
-Placed s p = (p .mark ≡ Crossing) ⊎ CornerAt s p
+Placed s p = (p .mark ≡ aCrossing) ⊎ CornerAt s p
 
 module _ (s : Shape) (fit : Fit s) where
   corner-at : (k : ℕ) → CornerAt s (cornerPoint (landAt s k .place))

@@ -22,18 +22,17 @@ use Rattle.faceijk.specs.Faces.{dirTo}
 use Rattle.faceijk.specs.Entries.{badEdge}
 use Rattle.boundary.specs.declared.Cell.{Cell}
 use Rattle.boundary.specs.declared.Shape.{Shape}
-use Rattle.boundary.specs.declared.Mark.the-variants.{Crossing}
 use Rattle.boundary.specs.declared.BoundaryPoint.{BoundaryPoint}
 use Rattle.boundary.specs.declared.Before.{Before}
 use Rattle.boundary.specs.declared.Before.the-variants.{Nothing, Point, Refused}
-use Rattle.boundary.specs.CrossingPoints.{pointed, crossAt, unlessCorner, isFaceEdge, hexagonCrossing, takenOver, pentagonCrossing, crossingBetween, beforeAt}
+use Rattle.boundary.specs.CrossingPoints.{aCrossing, pointed, crossAt, unlessCorner, isFaceEdge, hexagonCrossing, takenOver, pentagonCrossing, crossingBetween, beforeAt}
 use Rattle.boundary.specs.Boundaries.{orElse, verdictBefore, verdictTo}
 use Rattle.boundary.specs.CrossingPoints.{awayFace}
 
 -- what stands before a corner is nothing, a crossing point, or a refusal that P allows
 pub data Fair (P : Refusal → Type 0) : Before → Type 0 where
   none : Fair P Nothing
-  point-there : {p : BoundaryPoint} → p .mark ≡ Crossing → Fair P (Point p)
+  point-there : {p : BoundaryPoint} → p .mark ≡ aCrossing → Fair P (Point p)
   refused : {r : Refusal} → P r → Fair P (Refused r)
 
 pub either : {A : Type 0} (Q : A → Type 0) (b : Bool) {x y : A} → Q x → Q y → Q (pick b x y)

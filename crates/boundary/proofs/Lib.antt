@@ -5,10 +5,11 @@ pub mod Asked
 pub mod Cells
 pub mod Landing
 pub mod Staying
-pub mod Faces
 pub mod Padding
 pub mod Counting
+pub mod Needed
 pub mod Walking
+pub mod Inside
 pub mod Verdicts
 pub mod Unique
 pub mod Smallest

@@ -13,12 +13,10 @@ use Rattle.coordijk.specs.declared.CoordIJK.{CoordIJK}
 use Rattle.coordijk.proofs.Unique.{same-coord}
 use Rattle.vec2d.proofs.Unique.{same-bits}
 use Rattle.boundary.specs.declared.Corners.{Corners}
-use Rattle.boundary.specs.declared.Mark.{Mark}
-use Rattle.boundary.specs.declared.Mark.the-variants.{Unused, Corner, Crossing}
 use Rattle.boundary.specs.declared.BoundaryPoint.{BoundaryPoint}
 use Rattle.boundary.specs.declared.Boundary.{Boundary}
 use Rattle.boundary.specs.Corners.{verdictNumber, coordsValues, saidCorners}
-use Rattle.boundary.specs.Boundaries.{markNumber, pointsValues, saidBoundary}
+use Rattle.boundary.specs.Boundaries.{pointsValues, saidBoundary}
 
 values : {a b : Reply} → a ≡ b → a .values ≡ b .values
 values e = ap (λ (x : Reply). x .values) e
@@ -47,20 +45,6 @@ one-corners a b e =
     let corners = same-coords (a .corners) (b .corners) (cc) in
     λ n. record { refusal = refusal n; level = record { 0 = level n }; corners = corners n }
 
-mark : ℕ → Mark
-mark zero = Unused
-mark (suc zero) = Corner
-mark (suc (suc n)) = Crossing
-
-mark-back : (m : Mark) → mark (markNumber m) ≡ m
-unfolding mark
-mark-back Unused = refl
-mark-back Corner = refl
-mark-back Crossing = refl
-
-same-mark : (a b : Mark) → markNumber a ≡ markNumber b → a ≡ b
-same-mark a b e = sym (mark-back a) ∙ (ap mark e ∙ mark-back b)
-
 -- Points that a program holds: each part is a value of the format, as every f64 is.
 pub record Held (p : BoundaryPoint) : Type 0 where
   pub x : T (fits binary64 (p .x))
@@ -78,7 +62,7 @@ same-points (p ∷ ps) (q ∷ qs) f g e =
     let face : p .face ≡ q .face = cc in
     let x = same-bits (p .x) (q .x) (f .0 .x) (g .0 .x) (cc) in
     let y = same-bits (p .y) (q .y) (f .0 .y) (g .0 .y) (cc) in
-    let kind = same-mark (p .mark) (q .mark) (cc) in
+    let kind : p .mark ≡ q .mark = cc in
     let rest = same-points ps qs (f .1) (g .1) (cc) in
     λ n. record { face = face n; x = x n; y = y n; mark = kind n } ∷ rest n
 

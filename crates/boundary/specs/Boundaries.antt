@@ -17,14 +17,12 @@ use Rattle.coordijk.specs.Coordinates.{sumOf}
 use Rattle.faceijk.specs.declared.Place.{Place}
 use Rattle.faceijk.specs.Places.{coordOf, sumAt}
 use Rattle.boundary.specs.declared.Shape.{Shape}
-use Rattle.boundary.specs.declared.Mark.{Mark}
-use Rattle.boundary.specs.declared.Mark.the-variants.{Unused, Corner, Crossing}
 use Rattle.boundary.specs.declared.BoundaryPoint.{BoundaryPoint}
 use Rattle.boundary.specs.declared.Boundary.{Boundary}
 use Rattle.boundary.specs.declared.Before.{Before}
 use Rattle.boundary.specs.declared.Before.the-variants.{Nothing, Point, Refused}
 use Rattle.boundary.specs.Corners.{classIII, throughApertures, verdictNumber, cellReasons}
-use Rattle.boundary.specs.Landing.{cellOf, shapeOf, landAt}
+use Rattle.boundary.specs.Landing.{cellOf, shapeOf, substrateOf, landAt}
 use Rattle.boundary.specs.CrossingPoints.{cornerPoint, beforeAt}
 
 -- the points of turn k: the crossing point before its corner, if there is one, and the corner; a turn past all corners only looks for a crossing point on the last edge
@@ -91,19 +89,13 @@ boundaryPoints sides p l start n = pointsTo (askedShape sides p l start) (turnsF
 
 -- the record: a count and room for twelve points; unused points are zero
 abbrev pub noPoint : BoundaryPoint
-noPoint = record { face = 0; x = nought; y = nought; mark = Unused }
+noPoint = record { face = 0; x = nought; y = nought; mark = 0 }
 
 unfoldable pub padded : List BoundaryPoint → List BoundaryPoint
 padded ps = ps ++ replicate (12 - length ps) noPoint
 
--- a corner's mark is 1, a crossing point's 2, an unused point's 0
-abbrev pub markNumber : Mark → ℕ
-markNumber Unused = 0
-markNumber Corner = 1
-markNumber Crossing = 2
-
 abbrev pub pointValues : BoundaryPoint → List ℕ
-pointValues p = p .face ∷ toBits binary64 (p .x) ∷ toBits binary64 (p .y) ∷ markNumber (p .mark) ∷ []
+pointValues p = p .face ∷ toBits binary64 (p .x) ∷ toBits binary64 (p .y) ∷ p .mark ∷ []
 
 abbrev pub pointsValues : List BoundaryPoint → List ℕ
 pointsValues [] = []
@@ -140,6 +132,7 @@ withinOf s n =
 pub record Solid (s : Shape) : Type 0 where
   pub on : s .cell .centre .face < 20
   pub level : badGrid (s .cell .level .0) ≡ false
+  pub grid : s .cell .grid ≡ substrateOf (s .cell .level)
   pub limit : s .cell .m ≡ limitOf (s .cell .level .0) false
   pub some : 0 < s .cell .m
   pub low : s .cell .m ≤ 11529602
@@ -151,3 +144,9 @@ pub record Solid (s : Shape) : Type 0 where
 pub record Fit (s : Shape) : Type 0 where
   pub solid : Solid s
   pub near : sumAt (s .cell .centre) ≤ 3 * s .cell .m
+
+-- a hexagon whose centre is so far within the limit that every corner is
+pub record Deep (s : Shape) : Type 0 where
+  pub fit : Fit s
+  pub deep : sumAt (s .cell .centre) + 9 < 3 * s .cell .m
+  pub hexagon : s .sides ≡ 6

@@ -1,7 +1,7 @@
 -- The corners of a cell: document 01, "Corners and boundary", first half.
 use mathlib.Core.Bool.{Bool}
 use mathlib.Core.List.{List, [], _∷_, _++_}
-use Prim.Native.Nat.{ℕ, _+_, _%_, _≤_}
+use Prim.Native.Nat.{ℕ, _+_, _*_, _/_, _%_, _^_, _≤_}
 use lib.Dec.{eqb}
 use lib.ListN.{getD}
 use Rattle.reply.specs.Choice.{pick}
@@ -37,6 +37,10 @@ vertsIII = coord 5 4 0 ∷ coord 1 5 0 ∷ coord 0 5 4 ∷ coord 0 1 5 ∷ coord
 
 abbrev pub offsetOf : Bool → ℕ → CoordIJK
 offsetOf odd v = getD (pick odd vertsIII vertsII) v (coord 0 0 0)
+
+-- the hexadecimal digit v of a word, as the code holds a column of those tables
+abbrev pub digitOf : ℕ → ℕ → ℕ
+digitOf w v = (w / 2 ^ (4 * v)) % 16
 
 abbrev pub shiftedBy : CoordIJK → CoordIJK → CoordIJK
 shiftedBy c o = reduced (c .i + o .i) (c .j + o .j) (c .k + o .k)

@@ -24,20 +24,25 @@ use Rattle.faceijk.specs.Steps.{stepOf}
 use Rattle.faceijk.specs.Entries.{badEdge}
 use Rattle.boundary.specs.declared.Cell.{Cell}
 use Rattle.boundary.specs.declared.Shape.{Shape}
-use Rattle.boundary.specs.declared.Mark.{Mark}
-use Rattle.boundary.specs.declared.Mark.the-variants.{Corner, Crossing}
 use Rattle.boundary.specs.declared.BoundaryPoint.{BoundaryPoint}
 use Rattle.boundary.specs.declared.Before.{Before}
 use Rattle.boundary.specs.declared.Before.the-variants.{Nothing, Point, Refused}
 use Rattle.boundary.specs.Corners.{cornerOf}
 use Rattle.boundary.specs.Landing.{substrateOf, vertexOf, landAt}
 
-abbrev pub pointOn : ℕ → Vec2d → Mark → BoundaryPoint
+-- a corner's mark is 1, a crossing point's 2, an unused point's 0
+abbrev pub aCorner : ℕ
+aCorner = 1
+
+abbrev pub aCrossing : ℕ
+aCrossing = 2
+
+abbrev pub pointOn : ℕ → Vec2d → ℕ → BoundaryPoint
 pointOn f v mark = record { face = f; x = v .x; y = v .y; mark = mark }
 
 -- a corner's point lies on the face where the corner landed
 abbrev pub cornerPoint : Place → BoundaryPoint
-cornerPoint p = pointOn (p .face) (centreOf (coordOf p)) Corner
+cornerPoint p = pointOn (p .face) (centreOf (coordOf p)) aCorner
 
 -- the ends v0, v1, v2 of a face's edges on the substrate grid, m being the limit of the plain grid
 abbrev pub v0 : Float → Vec2d
@@ -58,7 +63,7 @@ edgeLine d m = pick (eqb d 1) (line (v0 m) (v1 m)) (pick (eqb d 2) (line (v2 m) 
 
 -- the point met, on the face that it is projected with
 abbrev pub pointed : ℕ → Pointed → Before
-pointed f (Pointed.Done v) = Point (pointOn f v Crossing)
+pointed f (Pointed.Done v) = Point (pointOn f v aCrossing)
 pointed f (Pointed.Refused r) = Refused r
 
 -- where the line from a to b meets the edge of face f in the direction d. NotAdjacent: a direction needed for a crossing point is 0 or 7

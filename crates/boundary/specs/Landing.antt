@@ -15,12 +15,13 @@ use Rattle.boundary.specs.declared.Cell.{Cell}
 use Rattle.boundary.specs.declared.Shape.{Shape}
 use Rattle.boundary.specs.Corners.{classIII, throughApertures, cornerOf}
 
--- a cell on its substrate grid: the centre after the apertures, the grid level, the limit m of the plain grid
+-- a cell on its substrate grid: the centre after the apertures, the grid level, that grid, the limit m of the plain grid
 unfoldable pub cellOf : Place → ℕ → Cell
 cellOf p l =
     record {
       centre = place (p .face) (throughApertures (classIII l) (coordOf p));
       level = record { 0 = raisedOf l };
+      grid = gridOf (raisedOf l) true;
       m = limitOf (raisedOf l) false;
       odd = classIII l;
     }

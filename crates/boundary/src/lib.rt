@@ -5,27 +5,22 @@ ghost use mathlib.Core.List.{[]};
 ghost use Prim.Native.Nat.{_+_, _≤_, _<_};
 ghost use lib.IntN.{pos};
 ghost use lib.Ieee.{binary64, ofInt};
-ghost use Rattle.level.specs.Levels.{badGrid, raisedOf, limitOf};
-ghost use Rattle.coordijk.specs.Coordinates.{Taken};
+ghost use Rattle.level.specs.Levels.{badGrid, raisedOf, gridOf, Sound};
+ghost use Rattle.coordijk.specs.Coordinates.{Taken, coord};
 ghost use Rattle.coordijk.specs.Maps.{mapOf};
 ghost use Rattle.coordijk.specs.declared.GridMap.the-variants.{Aperture7Cw};
 ghost use Rattle.faceijk.specs.Places.{place, coordOf, Okay};
 ghost use Rattle.faceijk.specs.Faces.{dirTo};
-ghost use Rattle.faceijk.specs.Steps.{stepOf};
-ghost use Rattle.faceijk.specs.Entries.{badEdge};
-ghost use Rattle.boundary.specs.Corners.{classIII, throughApertures, offsetOf, cornerOf, sixCorners, saidCorners, cornersReply, cellVerdict, rangeVerdict, Upto};
-ghost use Rattle.boundary.specs.Landing.{cellOf, substrateOf, crossedOnce, settledAt, landFrom, vertexOf, landAt};
+ghost use Rattle.boundary.specs.Corners.{classIII, throughApertures, digitOf, offsetOf, cornerOf, sixCorners, saidCorners, cornersReply, cellVerdict, rangeVerdict, Upto};
+ghost use Rattle.boundary.specs.Landing.{cellOf, substrateOf, cornerPlace, vertexOf, landAt};
 ghost use Rattle.boundary.specs.CrossingPoints.{pointOn, cornerPoint, edgeLine, pointed, crossAt, unlessCorner, isFaceEdge, awayFace, hexagonCrossing, takenOver, pentagonCrossing, beforeFrom};
-ghost use Rattle.boundary.specs.Boundaries.{pointsTo, verdictTo, boundaryOf, markNumber, turnsFor, withinOf, outlineOf, saidBoundary, boundaryReply, Solid, Fit};
+ghost use Rattle.boundary.specs.Boundaries.{pointsTo, verdictTo, boundaryOf, turnsFor, withinOf, saidBoundary, boundaryReply, Solid, Fit, Deep};
 use coordijk::CoordIJK;
-use faceijk::Crossed;
-use faceijk::Directed;
 use faceijk::Landed;
-use faceijk::Moved;
 use faceijk::Overage;
 use faceijk::Place;
-use faceijk::Settled;
 use level::CellLevel;
+use level::Grid;
 use level::GridLevel;
 use level::Gridded;
 use level::Raised;
@@ -42,18 +37,12 @@ pub struct Corners {
     pub corners: [CoordIJK; 6],
 }
 
-// What a point of a boundary is.
-pub enum Mark {
-    Unused,
-    Corner,
-    Crossing,
-}
-
+// A point of a boundary on the plane of a face. The mark says what it is: a corner, a crossing point, or, at 0, unused.
 pub struct BoundaryPoint {
     pub face: u32,
+    pub mark: u32,
     pub x: f64,
     pub y: f64,
-    pub mark: Mark,
 }
 
 // A count, and in the same record room for twelve points.
@@ -63,10 +52,11 @@ pub struct Boundary {
     pub points: [BoundaryPoint; 12],
 }
 
-// A cell on its substrate grid: its centre there, the grid level, the limit m of the plain grid, and whether it is of Class III.
+// A cell on its substrate grid: its centre there, the grid level, that grid, the limit m of the plain grid, and whether it is of Class III.
 struct Cell {
     pub centre: Place,
     pub level: GridLevel,
+    pub grid: Grid,
     pub m: u32,
     pub odd: bool,
 }
@@ -83,38 +73,6 @@ enum Before {
     Nothing,
     Point(BoundaryPoint),
     Refused(Refusal),
-}
-
-// The corner offsets of Class II and Class III cells.
-const VERTS_CII: [CoordIJK; 6] = [
-    CoordIJK { i: 2, j: 1, k: 0 },
-    CoordIJK { i: 1, j: 2, k: 0 },
-    CoordIJK { i: 0, j: 2, k: 1 },
-    CoordIJK { i: 0, j: 1, k: 2 },
-    CoordIJK { i: 1, j: 0, k: 2 },
-    CoordIJK { i: 2, j: 0, k: 1 },
-];
-
-const VERTS_CIII: [CoordIJK; 6] = [
-    CoordIJK { i: 5, j: 4, k: 0 },
-    CoordIJK { i: 1, j: 5, k: 0 },
-    CoordIJK { i: 0, j: 5, k: 4 },
-    CoordIJK { i: 0, j: 1, k: 5 },
-    CoordIJK { i: 4, j: 0, k: 5 },
-    CoordIJK { i: 5, j: 0, k: 1 },
-];
-
-impl Mark {
-    // 0, 1 or 2, in the order above.
-    pub fn number(self) -> u32
-        ensures { λ r. ⌜ r ≡ markNumber self ⌝ }
-    {
-        match self {
-            Mark::Unused => 0,
-            Mark::Corner => 1,
-            Mark::Crossing => 2,
-        }
-    }
 }
 
 // The tests that follow those of face and level.
@@ -179,14 +137,18 @@ fn grid_level(level: CellLevel) -> GridLevel
     }
 }
 
-fn plain_limit(level: GridLevel) -> u32
+fn grid_at(level: GridLevel, substrate: bool) -> Grid
     requires { ⌜ badGrid (level .0) ≡ false ⌝ }
-    ensures { λ r. ⌜ r ≡ limitOf (level .0) false ⌝ }
+    ensures { λ r. ⌜ r ≡ gridOf (level .0) substrate ⌝ }
 {
-    let gridded = level.grid(false);
+    let gridded = level.grid(substrate);
     match gridded {
-        Gridded::Done(grid) => grid.limit,
-        Gridded::Refused(_) => 0,
+        Gridded::Done(grid) => grid,
+        Gridded::Refused(_) => Grid {
+            unit: 0,
+            limit: 0,
+            substrate,
+        },
     }
 }
 
@@ -194,6 +156,15 @@ fn is_odd(level: CellLevel) -> bool
     ensures { λ r. ⌜ r ≡ classIII (level .0) ⌝ }
 {
     level.0 % 2 == 1
+}
+
+// The hexadecimal digit v of each of three words.
+fn digits(i: u32, j: u32, k: u32, v: usize) -> CoordIJK
+    requires { ⌜ v < 6 ⌝ }
+    ensures { λ r. ⌜ r ≡ coord (digitOf i v) (digitOf j v) (digitOf k v) ⌝ }
+{
+    let s = 4 * v as u32;
+    CoordIJK::new((i >> s) % 16, (j >> s) % 16, (k >> s) % 16)
 }
 
 impl Cell {
@@ -205,22 +176,26 @@ impl Cell {
         let odd = is_odd(level);
         let c = through_apertures(centre.coord(), odd);
         let grid = grid_level(level);
+        let plain = grid_at(grid, false);
         Cell {
             centre: Place::new(centre.face, c.i, c.j, c.k),
             level: grid,
-            m: plain_limit(grid),
+            grid: grid_at(grid, true),
+            m: plain.limit,
             odd,
         }
     }
 
+    // The tables `VERTS_CII` and `VERTS_CIII` by columns, a hexadecimal digit a corner from the lowest on: a table would be laid out in
+    // memory anew at each reading.
     fn offset(self, v: usize) -> CoordIJK
         requires { ⌜ v < 6 ⌝ }
         ensures { λ r. ⌜ r ≡ offsetOf (self .odd) v ⌝ }
     {
         if self.odd {
-            return VERTS_CIII[v];
+            return digits(0x540015, 0x001554, 0x155400, v);
         }
-        VERTS_CII[v]
+        digits(0x210012, 0x001221, 0x122100, v)
     }
 
     // The corner v, still on the centre's face.
@@ -278,81 +253,12 @@ pub fn corners_of(centre: Place, level: CellLevel) -> Corners
     }
 }
 
-// A hexagon's corner is crossed once. A corner is taken for sure, as above.
-fn crossed_once(corner: Place, level: GridLevel) -> Landed
-    requires { ⌜ Okay corner × (badGrid (level .0) ≡ false) ⌝ }
-    ensures { λ r. ⌜ r ≡ crossedOnce (substrateOf level) corner ⌝ }
-{
-    let crossed = corner.cross(level, true, false);
-    match crossed {
-        Crossed::Done(landed) => landed,
-        Crossed::Refused(_) => Landed {
-            place: corner,
-            overage: Overage::None,
-        },
-    }
-}
-
-// A pentagon's corner is settled.
-fn settled_at(corner: Place, level: GridLevel) -> Landed
-    requires { ⌜ Okay corner × (badGrid (level .0) ≡ false) ⌝ }
-    ensures { λ r. ⌜ r ≡ settledAt (substrateOf level) corner ⌝ }
-{
-    let settled = corner.settle(level, true);
-    match settled {
-        Settled::Done(rested) => {
-            let place = rested.place;
-            Landed {
-                place,
-                overage: Overage::None,
-            }
-        }
-        Settled::Refused(_) => Landed {
-            place: corner,
-            overage: Overage::None,
-        },
-    }
-}
-
-// A corner within the limit, three times m, stays where it is; the others go the way of their shape.
-fn land_from(sides: u32, corner: Place, level: GridLevel, m: u32) -> Landed
-    requires { ⌜ Okay corner × (badGrid (level .0) ≡ false) × (m ≡ limitOf (level .0) false) × (m ≤ 11529602) ⌝ }
-    ensures { λ r. ⌜ r ≡ landFrom sides (substrateOf level) corner ⌝ }
-{
-    if corner.i + corner.j + corner.k < 3 * m {
-        return Landed {
-            place: corner,
-            overage: Overage::None,
-        };
-    }
-    if sides == 5 {
-        return settled_at(corner, level);
-    }
-    crossed_once(corner, level)
-}
-
-// The step over an edge on the substrate grid.
-fn stepped(place: Place, level: GridLevel, edge: u32) -> Place
-    requires { ⌜ Okay place × (badGrid (level .0) ≡ false) × (badEdge edge ≡ false) ⌝ }
-    ensures { λ r. ⌜ r ≡ stepOf place edge (substrateOf level .unit) ⌝ }
-{
-    let moved = place.step(level, true, edge);
-    match moved {
-        Moved::Done(p) => p,
-        Moved::Refused(_) => place,
-    }
-}
-
 // The direction number from one face to another.
 fn edge_to(from: u32, to: u32) -> u32
-    requires { ⌜ (from < 20) × (to < 20) ⌝ }
+    requires { ⌜ from < 20 ⌝ }
     ensures { λ r. ⌜ r ≡ dirTo «from» to ⌝ }
 {
-    let directed = faceijk::face_direction(from, to);
-    match directed {
-        Directed::Done(direction) => direction.number(),
-        Directed::Refused(_) => 7,
-    }
+    faceijk::direction_to(from, to).number()
 }
 
 fn is_face_edge(overage: Overage) -> bool
@@ -388,7 +294,7 @@ impl Before {
         ensures { λ r. ⌜ r ≡ pointed face met ⌝ }
     {
         match met {
-            Pointed::Done(v) => Before::Point(BoundaryPoint::on(face, v, Mark::Crossing)),
+            Pointed::Done(v) => Before::Point(BoundaryPoint::on(face, v, BoundaryPoint::CROSSING)),
             Pointed::Refused(refusal) => Before::Refused(refusal),
         }
     }
@@ -433,7 +339,7 @@ fn away_face(home: u32, last: u32, now: u32) -> u32
 impl Cell {
     // The crossing point before the corner v of a hexagon, both corners taken on the centre's face.
     fn hexagon_crossing(self, last: Landed, now: u32, v: usize) -> Before
-        requires { ⌜ Upto 805306368 (coordOf (self .centre)) × (self .centre .face < 20) × (last .place .face < 20) × (now < 20) × (v < 6) ⌝ }
+        requires { ⌜ Upto 805306368 (coordOf (self .centre)) × (self .centre .face < 20) × (v < 6) ⌝ }
         ensures { λ r. ⌜ r ≡ hexagonCrossing self last now v ⌝ }
     {
         if last.place.face == now {
@@ -452,18 +358,18 @@ impl Cell {
 
     // The crossing point between two corners of a pentagon, the second stepped over to the face of the first.
     fn pentagon_crossing(self, last: Place, now: Place) -> Before
-        requires { ⌜ Okay now × (last .face < 20) × (badGrid (self .level .0) ≡ false) ⌝ }
+        requires { ⌜ Okay now × (self .grid ≡ substrateOf (self .level)) × Sound (self .grid) ⌝ }
         ensures { λ r. ⌜ r ≡ pentagonCrossing self last now ⌝ }
     {
         let edge = edge_to(now.face, last.face);
         if (edge < 1) | (3 < edge) {
             return Before::Refused(Refusal::NotAdjacent);
         }
-        self.taken_over(last, now.face, stepped(now, self.level, edge))
+        self.taken_over(last, now.face, now.over(edge, self.grid))
     }
 
     fn taken_over(self, last: Place, now: u32, over: Place) -> Before
-        requires { ⌜ (over .face < 20) × (now < 20) ⌝ }
+        requires { ⌜ over .face < 20 ⌝ }
         ensures { λ r. ⌜ r ≡ takenOver self last now over ⌝ }
     {
         let a = Vec2d::from_ijk(last.coord());
@@ -473,28 +379,36 @@ impl Cell {
 }
 
 impl BoundaryPoint {
+    pub const CORNER: u32 = 1;
+
+    pub const CROSSING: u32 = 2;
+
     const UNUSED: BoundaryPoint = BoundaryPoint {
         face: 0,
+        mark: 0,
         x: 0.0,
         y: 0.0,
-        mark: Mark::Unused,
     };
 
-    fn on(face: u32, v: Vec2d, mark: Mark) -> BoundaryPoint
+    fn on(face: u32, v: Vec2d, mark: u32) -> BoundaryPoint
         ensures { λ r. ⌜ r ≡ pointOn face v mark ⌝ }
     {
         BoundaryPoint {
             face,
+            mark,
             x: v.x,
             y: v.y,
-            mark,
         }
     }
 
     fn corner(place: Place) -> BoundaryPoint
         ensures { λ r. ⌜ r ≡ cornerPoint place ⌝ }
     {
-        BoundaryPoint::on(place.face, Vec2d::from_ijk(place.coord()), Mark::Corner)
+        BoundaryPoint::on(
+            place.face,
+            Vec2d::from_ijk(place.coord()),
+            BoundaryPoint::CORNER,
+        )
     }
 }
 
@@ -536,38 +450,64 @@ impl Shape {
         }
     }
 
-    // The corner at turn k on its own face.
-    fn land(self, k: u32) -> Landed
+    // The corner at turn k, still on the centre's face.
+    fn corner(self, k: u32) -> Place
         requires { ⌜ Fit self × (k ≤ self .sides) ⌝ }
-        ensures { λ r. ⌜ r ≡ landAt self k ⌝ }
+        ensures { λ r. ⌜ r ≡ cornerPlace (self .cell) (vertexOf self k) ⌝ }
     {
         let c = self.cell.corner(self.vertex(k));
-        let corner = Place::new(self.cell.centre.face, c.i, c.j, c.k);
-        land_from(self.sides, corner, self.cell.level, self.cell.m)
+        Place::new(self.cell.centre.face, c.i, c.j, c.k)
     }
 
-    // What stands before the corner at turn k.
-    fn crossing_before(self, k: u32, last: Landed, now: Landed) -> Before
-        requires { ⌜ Fit self × (k ≤ self .sides) × (last .place .face < 20) × Okay (now .place) ⌝ }
+    // A hexagon's corner is crossed once.
+    fn crossed(self, k: u32) -> Landed
+        requires { ⌜ Fit self × (k ≤ self .sides) × (self .sides ≡ 6) ⌝ }
+        ensures { λ r. ⌜ r ≡ landAt self k ⌝ }
+    {
+        self.corner(k).crossed(false, self.cell.grid)
+    }
+
+    // A pentagon's corner is settled.
+    fn settled(self, k: u32) -> Landed
+        requires { ⌜ Fit self × (k ≤ self .sides) × (self .sides ≡ 5) ⌝ }
+        ensures { λ r. ⌜ r ≡ landAt self k ⌝ }
+    {
+        let place = self.corner(k).settled(self.cell.grid).place;
+        Landed {
+            place,
+            overage: Overage::None,
+        }
+    }
+
+    // What stands before a hexagon's corner at turn k.
+    fn hexagon_before(self, k: u32, last: Landed, now: Landed) -> Before
+        requires { ⌜ Fit self × (k ≤ self .sides) × (self .sides ≡ 6) ⌝ }
         ensures { λ r. ⌜ r ≡ beforeFrom self k last now ⌝ }
     {
-        if k == 0 {
+        let odd = self.cell.odd;
+        if (k == 0) | !odd {
             return Before::Nothing;
         }
-        let odd = self.cell.odd;
-        if odd {
-            if self.sides == 5 {
-                return self.cell.pentagon_crossing(last.place, now.place);
-            }
-            return self.cell
-                .hexagon_crossing(last, now.place.face, self.vertex(k));
-        }
-        Before::Nothing
+        self.cell
+            .hexagon_crossing(last, now.place.face, self.vertex(k))
     }
 
-    // The points of so many turns, or the refusal of the first crossing point needed. A turn past all corners only looks for a crossing point.
-    fn walked(self, turns: u32) -> Boundary
-        requires { ⌜ Fit self × (turns ≤ self .sides + 1) ⌝ }
+    // What stands before a pentagon's corner at turn k.
+    fn pentagon_before(self, k: u32, last: Landed, now: Landed) -> Before
+        requires { ⌜ Fit self × Okay (now .place) × (self .sides ≡ 5) ⌝ }
+        ensures { λ r. ⌜ r ≡ beforeFrom self k last now ⌝ }
+    {
+        let odd = self.cell.odd;
+        if (k == 0) | !odd {
+            return Before::Nothing;
+        }
+        self.cell.pentagon_crossing(last.place, now.place)
+    }
+
+    // The points of so many turns round a hexagon, or the refusal of the first crossing point needed. A turn past all corners only looks for a
+    // crossing point.
+    fn hexagon_walk(self, turns: u32) -> Boundary
+        requires { ⌜ Fit self × (turns ≤ self .sides + 1) × (self .sides ≡ 6) ⌝ }
         ensures { λ r. ⌜ r ≡ boundaryOf (verdictTo self turns) (pointsTo self turns) ⌝ }
     {
         let mut points = [BoundaryPoint::UNUSED; 12];
@@ -579,8 +519,8 @@ impl Shape {
         };
         let mut k = 0u32;
         while k < turns {
-            let now = self.land(k);
-            let found = self.crossing_before(k, last, now);
+            let now = self.crossed(k);
+            let found = self.hexagon_before(k, last, now);
             match found {
                 Before::Nothing => {}
                 Before::Point(point) => {
@@ -589,7 +529,7 @@ impl Shape {
                 }
                 Before::Refused(refusal) => return Boundary::refused(refusal),
             }
-            if k < self.sides {
+            if k < 6 {
                 points[count] = BoundaryPoint::corner(now.place);
                 count += 1;
             }
@@ -603,31 +543,90 @@ impl Shape {
         }
     }
 
-    // The boundary, unless the centre lies out of its face.
-    fn within(self, length: u32) -> Boundary
-        requires { ⌜ Solid self × (length ≤ self .sides) ⌝ }
+    // The same round a pentagon. The two walks stand apart, as in the source: joined, neither would be compiled into its entry.
+    fn pentagon_walk(self, turns: u32) -> Boundary
+        requires { ⌜ Fit self × (turns ≤ self .sides + 1) × (self .sides ≡ 5) ⌝ }
+        ensures { λ r. ⌜ r ≡ boundaryOf (verdictTo self turns) (pointsTo self turns) ⌝ }
+    {
+        let mut points = [BoundaryPoint::UNUSED; 12];
+        let mut count: usize = 0;
+        let centre = self.cell.centre;
+        let mut last = Landed {
+            place: centre,
+            overage: Overage::None,
+        };
+        let mut k = 0u32;
+        while k < turns {
+            let now = self.settled(k);
+            let found = self.pentagon_before(k, last, now);
+            match found {
+                Before::Nothing => {}
+                Before::Point(point) => {
+                    points[count] = point;
+                    count += 1;
+                }
+                Before::Refused(refusal) => return Boundary::refused(refusal),
+            }
+            if k < 5 {
+                points[count] = BoundaryPoint::corner(now.place);
+                count += 1;
+            }
+            last = now;
+            k += 1;
+        }
+        Boundary {
+            refusal: Verdict::Fine,
+            count: count as u32,
+            points,
+        }
+    }
+
+    // A hexagon whose corners are all within the limit, whichever they are: they stay where they are, and no line leaves the face.
+    fn inside(self, length: u32) -> Boundary
+        requires { ⌜ Deep self × (length ≤ self .sides) ⌝ }
+        ensures { λ r. ⌜ r ≡ boundaryOf (verdictTo self (turnsFor (self .sides) length)) (pointsTo self (turnsFor (self .sides) length)) ⌝ }
+    {
+        let mut points = [BoundaryPoint::UNUSED; 12];
+        let mut k = 0u32;
+        while k < length {
+            points[k as usize] = BoundaryPoint::corner(self.corner(k));
+            k += 1;
+        }
+        Boundary {
+            refusal: Verdict::Fine,
+            count: length,
+            points,
+        }
+    }
+
+    // A hexagon's boundary, unless the centre lies out of its face. No offset of a corner has a sum above 9.
+    fn hexagon(self, length: u32) -> Boundary
+        requires { ⌜ Solid self × (length ≤ self .sides) × (self .sides ≡ 6) ⌝ }
         ensures { λ r. ⌜ r ≡ withinOf self length ⌝ }
     {
         let c = self.cell.centre;
-        if c.i as u64 + c.j as u64 + c.k as u64 <= 3 * self.cell.m as u64 {
-            return self.walked(turns_for(self.sides, length));
+        let sum = c.i as u64 + c.j as u64 + c.k as u64;
+        let limit = 3 * self.cell.m as u64;
+        if limit < sum {
+            return Boundary::refused(Refusal::OutOfFace);
         }
-        Boundary::refused(Refusal::OutOfFace)
+        if sum + 9 < limit {
+            return self.inside(length);
+        }
+        self.hexagon_walk(turns_for(6, length))
     }
-}
 
-// Hexagons and pentagons share all but how a corner lands and where a crossing point is looked for.
-fn outline(sides: u32, centre: Place, level: CellLevel, start: u32, length: u32) -> Boundary
-    requires { ⌜ (5 ≤ sides) × (sides ≤ 6) ⌝ }
-    ensures { λ r. ⌜ r ≡ outlineOf sides centre (level .0) start length ⌝ }
-{
-    let verdict = cell_verdict(centre, level, (sides <= start) | (sides < length));
-    match verdict {
-        Verdict::Fine => {
-            let cell = Cell::made(centre, level);
-            Shape { cell, sides, start }.within(length)
+    // A pentagon's boundary, unless the centre lies out of its face.
+    fn pentagon(self, length: u32) -> Boundary
+        requires { ⌜ Solid self × (length ≤ self .sides) × (self .sides ≡ 5) ⌝ }
+        ensures { λ r. ⌜ r ≡ withinOf self length ⌝ }
+    {
+        let c = self.cell.centre;
+        let sum = c.i as u64 + c.j as u64 + c.k as u64;
+        if 3 * (self.cell.m as u64) < sum {
+            return Boundary::refused(Refusal::OutOfFace);
         }
-        Verdict::Refused(refusal) => Boundary::refused(refusal),
+        self.pentagon_walk(turns_for(5, length))
     }
 }
 
@@ -635,12 +634,34 @@ fn outline(sides: u32, centre: Place, level: CellLevel, start: u32, length: u32)
 pub fn hexagon_boundary(centre: Place, level: CellLevel, start: u32, length: u32) -> Boundary
     ensures { λ r. ⌜ saidBoundary r ≡ boundaryReply 6 centre (level .0) start length ⌝ }
 {
-    outline(6, centre, level, start, length)
+    let verdict = cell_verdict(centre, level, (6 <= start) | (6 < length));
+    match verdict {
+        Verdict::Fine => {
+            let cell = Cell::made(centre, level);
+            Shape {
+                cell,
+                sides: 6,
+                start,
+            }.hexagon(length)
+        }
+        Verdict::Refused(refusal) => Boundary::refused(refusal),
+    }
 }
 
 // The same of a pentagon.
 pub fn pentagon_boundary(centre: Place, level: CellLevel, start: u32, length: u32) -> Boundary
     ensures { λ r. ⌜ saidBoundary r ≡ boundaryReply 5 centre (level .0) start length ⌝ }
 {
-    outline(5, centre, level, start, length)
+    let verdict = cell_verdict(centre, level, (5 <= start) | (5 < length));
+    match verdict {
+        Verdict::Fine => {
+            let cell = Cell::made(centre, level);
+            Shape {
+                cell,
+                sides: 5,
+                start,
+            }.pentagon(length)
+        }
+        Verdict::Refused(refusal) => Boundary::refused(refusal),
+    }
 }

@@ -20,6 +20,12 @@ neighbours =
 abbrev pub faceOver : ℕ → ℕ → ℕ
 faceOver f e = getD neighbours (3 * f + e - 1) 0
 
+-- the same list as the code holds it: five bits a face from the lowest on, for one edge, of faces 0..9 (low) or 10..19
+abbrev pub wordOver : ℕ → Bool → ℕ
+wordOver e low =
+    pick (eqb e 1) (pick low 507299327181828 549293577739461)
+    (pick (eqb e 2) (pick low 470980141124673 652576900292838) (pick low 144105826163909 507299344500239))
+
 -- the direction number from face f to face g: 0 the face itself, 1, 2, 3 over that edge, 7 any other
 abbrev pub dirTo : ℕ → ℕ → ℕ
 dirTo f g = pick (eqb f g) 0 (pick (eqb (faceOver f 1) g) 1 (pick (eqb (faceOver f 2) g) 2 (pick (eqb (faceOver f 3) g) 3 7)))

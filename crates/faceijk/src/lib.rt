@@ -4,7 +4,7 @@ ghost use Prim.Native.Nat.{_<_, _≤_};
 ghost use Rattle.level.specs.Levels.{Sound, gridOf};
 ghost use Rattle.coordijk.specs.Coordinates.{reduced};
 ghost use Rattle.faceijk.specs.Places.{place, coordOf, sumAt, QAt, Okay, Ready, placeVerdict, edgeVerdict, overEdgeVerdict, onGridOf};
-ghost use Rattle.faceijk.specs.Faces.{faceOver, dirTo, directionNumber};
+ghost use Rattle.faceijk.specs.Faces.{faceOver, wordOver, dirTo, directionNumber};
 ghost use Rattle.faceijk.specs.Steps.{polar, stepOf};
 ghost use Rattle.faceijk.specs.Crossing.{edgeOut, aboutCorner, startOut, stepOut, landed, onEdge, crossingOf, settleFrom};
 ghost use Rattle.faceijk.specs.Entries.{reduceOf, saidMoved, turnMap, turnReply, stepReply, overageNumber, saidCrossed, crossReply, saidSettled, settleReply, saidDirected, directionReply, saidSame, sameVerdict, samePlace, sameReply};
@@ -84,70 +84,6 @@ pub enum OnGrid {
     Refused(Refusal),
 }
 
-// The faces over the edges IJ, KI, JK of face 0, of face 1, and so on.
-const NEIGHBOURS: [u32; 60] = [
-    4,
-    1,
-    5,
-    0,
-    2,
-    6,
-    1,
-    3,
-    7,
-    2,
-    4,
-    8,
-    3,
-    0,
-    9,
-    10,
-    14,
-    0,
-    11,
-    10,
-    1,
-    12,
-    11,
-    2,
-    13,
-    12,
-    3,
-    14,
-    13,
-    4,
-    5,
-    6,
-    15,
-    6,
-    7,
-    16,
-    7,
-    8,
-    17,
-    8,
-    9,
-    18,
-    9,
-    5,
-    19,
-    16,
-    19,
-    10,
-    17,
-    15,
-    11,
-    18,
-    16,
-    12,
-    19,
-    17,
-    13,
-    15,
-    18,
-    14,
-];
-
 fn placed(face: u32, c: CoordIJK) -> Place
     ensures { λ r. ⌜ r ≡ place face c ⌝ }
 {
@@ -180,11 +116,35 @@ fn reduced_at(face: u32, i: u32, j: u32, k: u32) -> Place
     placed(face, CoordIJK::new(i, j, k).reduce())
 }
 
+// The faces over an edge, five bits a face from the lowest on: those of faces 0..9, or those of 10..19. Words and not a table, since a
+// table of sixty would be laid out in memory anew at each reading.
+fn faces_over(edge: u32, low: bool) -> u64
+    ensures { λ r. ⌜ r ≡ wordOver edge low ⌝ }
+{
+    if edge == 1 {
+        if low {
+            return 507299327181828;
+        }
+        return 549293577739461;
+    }
+    if edge == 2 {
+        if low {
+            return 470980141124673;
+        }
+        return 652576900292838;
+    }
+    if low {
+        return 144105826163909;
+    }
+    507299344500239
+}
+
 fn face_over(face: u32, edge: u32) -> u32
     requires { ⌜ (face < 20) × (1 ≤ edge) × (edge ≤ 3) ⌝ }
     ensures { λ r. ⌜ r ≡ faceOver face edge ⌝ }
 {
-    NEIGHBOURS[(3 * face + edge - 1) as usize]
+    let word = faces_over(edge, face < 10);
+    ((word >> (5 * (face % 10))) % 32) as u32
 }
 
 fn is_polar(face: u32) -> bool
@@ -193,7 +153,8 @@ fn is_polar(face: u32) -> bool
     (face < 5) | (14 < face)
 }
 
-fn direction_to(from: u32, to: u32) -> Direction
+// The direction from a face to another. Public for boundaries, as `Place::over`.
+pub fn direction_to(from: u32, to: u32) -> Direction
     requires { ⌜ from < 20 ⌝ }
     ensures { λ r. ⌜ directionNumber r ≡ dirTo from to ⌝ }
 {
@@ -325,8 +286,8 @@ impl Place {
         }
     }
 
-    // The step over an edge: the table's turns and translations, as sums.
-    fn over(self, edge: u32, grid: Grid) -> Place
+    // The step over an edge: the table's turns and translations, as sums. Public for boundaries, which have tested place and grid.
+    pub fn over(self, edge: u32, grid: Grid) -> Place
         requires { ⌜ Ready self × (self .face < 20) × (1 ≤ edge) × (edge ≤ 3) × Sound grid ⌝ }
         ensures { λ r. ⌜ r ≡ stepOf self edge (grid .unit) ⌝ }
     {
@@ -416,7 +377,8 @@ impl Place {
         grid.substrate & (self.sum() == grid.limit as u64)
     }
 
-    fn crossed(self, turn: bool, grid: Grid) -> Landed
+    // Crossing on a grid. Public for boundaries, as above.
+    pub fn crossed(self, turn: bool, grid: Grid) -> Landed
         requires { ⌜ Okay self × Sound grid ⌝ }
         ensures { λ r. ⌜ r ≡ crossingOf turn grid self ⌝ }
     {
@@ -444,8 +406,8 @@ impl Place {
         }
     }
 
-    // Crossing until the place lies within the limit. Q falls with each step.
-    fn settled(self, grid: Grid) -> Rested
+    // Crossing until the place lies within the limit. Q falls with each step. Public for boundaries, as above.
+    pub fn settled(self, grid: Grid) -> Rested
         requires { ⌜ Okay self × Sound grid ⌝ }
         ensures { λ r. ⌜ r ≡ settleFrom (QAt self) grid self 0 ⌝ }
     {

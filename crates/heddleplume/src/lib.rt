@@ -1,101 +1,28 @@
 // The C face: every entry as a C function. It returns the refusal's number, 0 for none, and writes its values into a lent
-// slice; on a refusal it writes nothing. A slice with fewer elements than the values gets 2.
-ghost use mathlib.Core.Path.{_≡_};
-ghost use mathlib.Core.List.{[], _∷_, _++_};
-ghost use Prim.Native.Nat.{_+_, _≤_};
-ghost use lib.ListN.{length, drop};
-ghost use Rattle.faceijk.specs.Entries.{turnReply, stepReply, crossReply, settleReply, directionReply, sameReply};
-ghost use Rattle.vec2d.specs.Points.{point, saidPointed};
+// slice; on a refusal it writes nothing. A slice with fewer elements than the values gets 2. The crates `lent_..` do the work.
+ghost use Rattle.reply.specs.Replies.{answer};
 ghost use Rattle.coordijk.specs.Coordinates.{coord};
+ghost use Rattle.faceijk.specs.Entries.{turnReply, stepReply, crossReply, settleReply, directionReply, sameReply};
+ghost use Rattle.vec2d.specs.Points.{point};
 ghost use Rattle.vec2d.specs.Rounding.{roundReply};
 ghost use Rattle.vec2d.specs.Centre.{centreReply};
-ghost use Rattle.heddleplume.specs.Lent.{Gives, bitsOf, at, lineAt, linesReply};
-use coordijk::CoordIJK;
-use faceijk::Crossed;
-use faceijk::Directed;
-use faceijk::Moved;
-use faceijk::Place;
-use faceijk::SameCorner;
-use faceijk::Settled;
-use level::GridLevel;
+ghost use Rattle.vec3d.specs.Frame.{badFrame};
+ghost use Rattle.locate.specs.Locating.{locateReply};
+ghost use Rattle.boundary.specs.Corners.{cornersReply};
+ghost use Rattle.boundary.specs.Boundaries.{boundaryReply};
+ghost use Rattle.frame.specs.Default.{defaultFrame};
+ghost use Rattle.lent.specs.Lent.{Gives, GivesFramed, bitsOf, at};
+ghost use Rattle.lent_grid.specs.Lines.{linesReply};
+ghost use Rattle.lent_places.specs.Places.{vec, GivesNearest, GivesBatch};
+ghost use Rattle.lent_borders.specs.Borders.{GivesBoundary};
 use reply::Refusal;
-use vec2d::Line;
-use vec2d::Pointed;
-use vec2d::Rounded;
-use vec2d::Vec2d;
-
-fn put1(out: &mut [u32], a: u32)
-    requires { ⌜ 1 ≤ length (now out) ⌝ }
-    ensures { λ _. ⌜ now (out .exit) ≡ (a ∷ []) ++ drop 1 (now (out .entry)) ⌝ }
-{
-    out[0] = a;
-}
-
-fn put2(out: &mut [f64], a: f64, b: f64)
-    requires { ⌜ 2 ≤ length (now out) ⌝ }
-    ensures { λ _. ⌜ now (out .exit) ≡ (a ∷ b ∷ []) ++ drop 2 (now (out .entry)) ⌝ }
-{
-    out[0] = a;
-    out[1] = b;
-}
-
-fn put3(out: &mut [u32], a: u32, b: u32, c: u32)
-    requires { ⌜ 3 ≤ length (now out) ⌝ }
-    ensures { λ _. ⌜ now (out .exit) ≡ (a ∷ b ∷ c ∷ []) ++ drop 3 (now (out .entry)) ⌝ }
-{
-    out[0] = a;
-    out[1] = b;
-    out[2] = c;
-}
-
-fn put4(out: &mut [u32], a: u32, b: u32, c: u32, d: u32)
-    requires { ⌜ 4 ≤ length (now out) ⌝ }
-    ensures { λ _. ⌜ now (out .exit) ≡ (a ∷ b ∷ c ∷ d ∷ []) ++ drop 4 (now (out .entry)) ⌝ }
-{
-    out[0] = a;
-    out[1] = b;
-    out[2] = c;
-    out[3] = d;
-}
-
-fn put5(out: &mut [u32], a: u32, b: u32, c: u32, d: u32, e: u32)
-    requires { ⌜ 5 ≤ length (now out) ⌝ }
-    ensures { λ _. ⌜ now (out .exit) ≡ (a ∷ b ∷ c ∷ d ∷ e ∷ []) ++ drop 5 (now (out .entry)) ⌝ }
-{
-    out[0] = a;
-    out[1] = b;
-    out[2] = c;
-    out[3] = d;
-    out[4] = e;
-}
-
-fn put5_wide(out: &mut [u64], a: u64, b: u64, c: u64, d: u64, e: u64)
-    requires { ⌜ 5 ≤ length (now out) ⌝ }
-    ensures { λ _. ⌜ now (out .exit) ≡ (a ∷ b ∷ c ∷ d ∷ e ∷ []) ++ drop 5 (now (out .entry)) ⌝ }
-{
-    out[0] = a;
-    out[1] = b;
-    out[2] = c;
-    out[3] = d;
-    out[4] = e;
-}
 
 // The hexagon of a plane point: i, j, k.
 #[no_mangle]
 pub extern "C" fn heddleplume_round(x: f64, y: f64, out: &mut [u32]) -> u32
     ensures { λ r. ⌜ Gives 3 (roundReply (point x y)) (now (out .entry)) (now (out .exit)) r ⌝ }
 {
-    if out.len() < 3 {
-        return Refusal::BadRows.number();
-    }
-    let rounded = Vec2d::new(x, y).to_ijk();
-    match rounded {
-        Rounded::Done(c) => {
-            put3(out, c.i, c.j, c.k);
-            0
-        }
-        Rounded::Refused(refusal) => refusal.number(),
-    }
+    lent_grid::round(x, y, out)
 }
 
 // The centre of a hexagon: x, y.
@@ -103,36 +30,7 @@ pub extern "C" fn heddleplume_round(x: f64, y: f64, out: &mut [u32]) -> u32
 pub extern "C" fn heddleplume_centre(i: u32, j: u32, k: u32, out: &mut [f64]) -> u32
     ensures { λ r. ⌜ Gives 2 (centreReply (coord i j k)) (bitsOf (now (out .entry))) (bitsOf (now (out .exit))) r ⌝ }
 {
-    if out.len() < 2 {
-        return Refusal::BadRows.number();
-    }
-    let pointed = Vec2d::centre(CoordIJK::new(i, j, k));
-    match pointed {
-        Pointed::Done(v) => {
-            put2(out, v.x, v.y);
-            0
-        }
-        Pointed::Refused(refusal) => refusal.number(),
-    }
-}
-
-fn line_at(lines: &[f64], at: usize) -> Line
-    requires { ⌜ at + 4 ≤ length (now lines) ⌝ }
-    ensures { λ r. ⌜ r ≡ lineAt (now (lines .entry)) at ⌝ }
-{
-    Line {
-        from: Vec2d::new(lines[at], lines[at + 1]),
-        to: Vec2d::new(lines[at + 2], lines[at + 3]),
-    }
-}
-
-fn met(lines: &[f64]) -> Pointed
-    ensures { λ r. ⌜ saidPointed r ≡ linesReply (now (lines .entry)) ⌝ }
-{
-    if lines.len() != 8 {
-        return Pointed::Refused(Refusal::BadRows);
-    }
-    line_at(lines, 0).meet(line_at(lines, 4))
+    lent_grid::centre(i, j, k, out)
 }
 
 // Where two lines meet: x, y. The lines are eight doubles, x and y of the first from and to, then of the second.
@@ -140,17 +38,7 @@ fn met(lines: &[f64]) -> Pointed
 pub extern "C" fn heddleplume_meet(lines: &[f64], out: &mut [f64]) -> u32
     ensures { λ r. ⌜ Gives 2 (linesReply (now (lines .entry))) (bitsOf (now (out .entry))) (bitsOf (now (out .exit))) r ⌝ }
 {
-    if out.len() < 2 {
-        return Refusal::BadRows.number();
-    }
-    let pointed = met(lines);
-    match pointed {
-        Pointed::Done(v) => {
-            put2(out, v.x, v.y);
-            0
-        }
-        Pointed::Refused(refusal) => refusal.number(),
-    }
+    lent_grid::meet(lines, out)
 }
 
 // The direction from one face to another: 0, 1, 2, 3 or 7.
@@ -158,17 +46,7 @@ pub extern "C" fn heddleplume_meet(lines: &[f64], out: &mut [f64]) -> u32
 pub extern "C" fn heddleplume_direction(from: u32, to: u32, out: &mut [u32]) -> u32
     ensures { λ r. ⌜ Gives 1 (directionReply from to) (now (out .entry)) (now (out .exit)) r ⌝ }
 {
-    if out.len() < 1 {
-        return Refusal::BadRows.number();
-    }
-    let directed = faceijk::face_direction(from, to);
-    match directed {
-        Directed::Done(d) => {
-            put1(out, d.number());
-            0
-        }
-        Directed::Refused(refusal) => refusal.number(),
-    }
+    lent_grid::direction(from, to, out)
 }
 
 // A sixth turn: face, i, j, k.
@@ -183,17 +61,7 @@ pub extern "C" fn heddleplume_turn(
 ) -> u32
     ensures { λ r. ⌜ Gives 4 (turnReply (at face i j k) clockwise) (now (out .entry)) (now (out .exit)) r ⌝ }
 {
-    if out.len() < 4 {
-        return Refusal::BadRows.number();
-    }
-    let moved = Place::new(face, i, j, k).turn(clockwise);
-    match moved {
-        Moved::Done(p) => {
-            put4(out, p.face, p.i, p.j, p.k);
-            0
-        }
-        Moved::Refused(refusal) => refusal.number(),
-    }
+    lent_grid::turn(face, i, j, k, clockwise, out)
 }
 
 // The step over a named edge: face, i, j, k.
@@ -210,17 +78,7 @@ pub extern "C" fn heddleplume_step(
 ) -> u32
     ensures { λ r. ⌜ Gives 4 (stepReply (at face i j k) level substrate edge) (now (out .entry)) (now (out .exit)) r ⌝ }
 {
-    if out.len() < 4 {
-        return Refusal::BadRows.number();
-    }
-    let moved = Place::new(face, i, j, k).step(GridLevel(level), substrate, edge);
-    match moved {
-        Moved::Done(p) => {
-            put4(out, p.face, p.i, p.j, p.k);
-            0
-        }
-        Moved::Refused(refusal) => refusal.number(),
-    }
+    lent_grid::step(face, i, j, k, level, substrate, edge, out)
 }
 
 // Crossing: face, i, j, k, and 0 for None, 1 for FaceEdge, 2 for NewFace.
@@ -237,25 +95,7 @@ pub extern "C" fn heddleplume_cross(
 ) -> u32
     ensures { λ r. ⌜ Gives 5 (crossReply (at face i j k) level substrate turn) (now (out .entry)) (now (out .exit)) r ⌝ }
 {
-    if out.len() < 5 {
-        return Refusal::BadRows.number();
-    }
-    let crossed = Place::new(face, i, j, k).cross(GridLevel(level), substrate, turn);
-    match crossed {
-        Crossed::Done(l) => {
-            let overage = l.overage;
-            put5(
-                out,
-                l.place.face,
-                l.place.i,
-                l.place.j,
-                l.place.k,
-                overage.number(),
-            );
-            0
-        }
-        Crossed::Refused(refusal) => refusal.number(),
-    }
+    lent_grid::cross(face, i, j, k, level, substrate, turn, out)
 }
 
 // Settling: face, i, j, k, and the number of steps.
@@ -271,24 +111,7 @@ pub extern "C" fn heddleplume_settle(
 ) -> u32
     ensures { λ r. ⌜ Gives 5 (settleReply (at face i j k) level substrate) (now (out .entry)) (now (out .exit)) r ⌝ }
 {
-    if out.len() < 5 {
-        return Refusal::BadRows.number();
-    }
-    let settled = Place::new(face, i, j, k).settle(GridLevel(level), substrate);
-    match settled {
-        Settled::Done(s) => {
-            put5_wide(
-                out,
-                s.place.face as u64,
-                s.place.i as u64,
-                s.place.j as u64,
-                s.place.k as u64,
-                s.steps,
-            );
-            0
-        }
-        Settled::Refused(refusal) => refusal.number(),
-    }
+    lent_grid::settle(face, i, j, k, level, substrate, out)
 }
 
 // Whether two corners have one name: 1 yes, 0 no.
@@ -306,24 +129,114 @@ pub extern "C" fn heddleplume_same_corner(
 ) -> u32
     ensures { λ r. ⌜ Gives 1 (sameReply (at face i j k) (at «other_face» «other_i» «other_j» «other_k»)) (now (out .entry)) (now (out .exit)) r ⌝ }
 {
-    if out.len() < 1 {
+    lent_grid::same_corner(face, i, j, k, other_face, other_i, other_j, other_k, out)
+}
+
+// The face nearest to a unit vector, and its squared distance.
+#[no_mangle]
+pub extern "C" fn heddleplume_nearest(
+    frame: &[f64],
+    x: f64,
+    y: f64,
+    z: f64,
+    face: &mut [u32],
+    distance: &mut [f64],
+) -> u32
+    ensures { λ r. ⌜ GivesNearest (now (frame .entry)) (vec x y z) (now (face .entry)) (now (face .exit)) (bitsOf (now (distance .entry))) (bitsOf (now (distance .exit))) r ⌝ }
+{
+    lent_places::nearest(frame, x, y, z, face, distance)
+}
+
+// The place of a unit vector at a cell level: face, i, j, k.
+#[no_mangle]
+pub extern "C" fn heddleplume_place(
+    frame: &[f64],
+    x: f64,
+    y: f64,
+    z: f64,
+    level: u32,
+    out: &mut [u32],
+) -> u32
+    ensures { λ r. ⌜ GivesFramed (badFrame (now (frame .entry))) 4 (locateReply (now (frame .entry)) level (vec x y z)) (now (out .entry)) (now (out .exit)) r ⌝ }
+{
+    lent_places::place(frame, x, y, z, level, out)
+}
+
+// The places of a batch, one row of face, i, j, k for each vector; a refused row holds minus its refusal and zeros. `refused`: how many.
+#[no_mangle]
+pub extern "C" fn heddleplume_batch(
+    frame: &[f64],
+    level: u32,
+    input: &[f64],
+    out: &mut [i32],
+    first: usize,
+    refused: &mut [u64],
+) -> u32
+    ensures { λ r. ⌜ GivesBatch (now (frame .entry)) level (now (input .entry)) first (now (out .entry)) (now (out .exit)) (now (refused .entry)) (now (refused .exit)) r ⌝ }
+{
+    lent_places::batch(frame, level, input, out, first, refused)
+}
+
+// The corners of a cell: the grid level, then i, j, k six times; a pentagon takes the first five.
+#[no_mangle]
+pub extern "C" fn heddleplume_corners(
+    face: u32,
+    i: u32,
+    j: u32,
+    k: u32,
+    level: u32,
+    out: &mut [u32],
+) -> u32
+    ensures { λ r. ⌜ Gives 19 (cornersReply (at face i j k) level) (now (out .entry)) (now (out .exit)) r ⌝ }
+{
+    lent_borders::corners(face, i, j, k, level, out)
+}
+
+// The boundary of a hexagon. marks: the count, then face and mark twelve times (1 corner, 2 crossing point, 0 unused); points: x, y twelve times.
+#[no_mangle]
+pub extern "C" fn heddleplume_hexagon(
+    face: u32,
+    i: u32,
+    j: u32,
+    k: u32,
+    level: u32,
+    start: u32,
+    length: u32,
+    marks: &mut [u32],
+    points: &mut [f64],
+) -> u32
+    ensures { λ r. ⌜ GivesBoundary (boundaryReply 6 (at face i j k) level start length) (now (marks .entry)) (now (marks .exit)) (bitsOf (now (points .entry))) (bitsOf (now (points .exit))) r ⌝ }
+{
+    lent_borders::hexagon(face, i, j, k, level, start, length, marks, points)
+}
+
+// The same of a pentagon.
+#[no_mangle]
+pub extern "C" fn heddleplume_pentagon(
+    face: u32,
+    i: u32,
+    j: u32,
+    k: u32,
+    level: u32,
+    start: u32,
+    length: u32,
+    marks: &mut [u32],
+    points: &mut [f64],
+) -> u32
+    ensures { λ r. ⌜ GivesBoundary (boundaryReply 5 (at face i j k) level start length) (now (marks .entry)) (now (marks .exit)) (bitsOf (now (points .entry))) (bitsOf (now (points .exit))) r ⌝ }
+{
+    lent_borders::pentagon(face, i, j, k, level, start, length, marks, points)
+}
+
+// The default frame: 180 doubles.
+#[no_mangle]
+pub extern "C" fn heddleplume_frame(out: &mut [f64]) -> u32
+    ensures { λ r. ⌜ Gives 180 (answer (bitsOf defaultFrame)) (bitsOf (now (out .entry))) (bitsOf (now (out .exit))) r ⌝ }
+{
+    if out.len() < 180 {
         return Refusal::BadRows.number();
     }
-    let same = Place::new(face, i, j, k).same_corner(Place::new(
-        other_face,
-        other_i,
-        other_j,
-        other_k,
-    ));
-    match same {
-        SameCorner::Yes => {
-            put1(out, 1);
-            0
-        }
-        SameCorner::No => {
-            put1(out, 0);
-            0
-        }
-        SameCorner::Refused(refusal) => refusal.number(),
-    }
+    let frame = frame::default_frame();
+    lent::put_all(out, &frame);
+    0
 }

@@ -1,7 +1,6 @@
 -- `Cell::hexagon_crossing` meets its contract: each return by its tests and what it calls. Assumes nothing.
 use borrow.Author.Tests.{eq-eqb, ne-eqb}
 use Rattle.boundary.specs.CrossingPoints.{hexagonCrossing}
-use Rattle.boundary.proofs.Faces.{away-low}
 use borrow.Author.Needs.{needs}
 use Rattle.boundary.proofs.Cell.hexagon_crossing.Statement.{statement}
 use Rattle.boundary.proofs.Cell.hexagon_crossing.Tie as tie
@@ -13,11 +12,6 @@ returns c = rw (eq-eqb _ _ (c .if1 .taken))
 returns-2 : tie.Need-returns-2
 unfolding hexagonCrossing
 returns-2 c = rw (ne-eqb _ _ (c .before .before .if1 .left), ← (c .before .is-face-edge .ensures), c .if2 .taken)
-
-edge-to-requires : tie.Need-edge-to-requires
-edge-to-requires c κs =
-    let a = c .before .before .before .before .before .before .before .before .before in
-    (a .pre .1, rw (c .away-face .ensures) (away-low (a .args .self .centre .face) (a .args .last .place .face) (a .args .now) (a .pre .2) (a .pre .3)))
 
 returns-3 : tie.Need-returns-3
 unfolding hexagonCrossing
@@ -44,5 +38,5 @@ pub hexagon-crossing-spec : {M : Type 1} → statement M
 hexagon-crossing-spec =
     tie.close
     (tie.spec returns (λ c κs. search needs) returns-2 (λ c. search needs) (λ c κs. search needs) (λ c κs. search needs) (λ c κs.
-    search needs) (λ c κs. search needs) (λ c κs. search needs) edge-to-requires (λ c κs. search needs) (λ c κs. search needs)
+    search needs) (λ c κs. search needs) (λ c κs. search needs) (λ c κs. search needs) (λ c κs. search needs) (λ c κs. search needs)
     returns-3)

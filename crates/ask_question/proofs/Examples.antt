@@ -1,0 +1,52 @@
+-- Worked examples: lines and what they ask, in one statement. Assumes nothing.
+use mathlib.Core.Path.{_≡_, refl}
+use mathlib.Core.List.{List, [], _∷_, map}
+use Prim.Native.Nat.{ℕ}
+use Prim.Native.String.{String}
+use lib.ListN.{replicate}
+use lib.Ieee.{Float, binary64, ofBits, div, neg, ofInt}
+use Rattle.bytes.specs.Bytes.{indexOf}
+use Rattle.ask_word.specs.Words.{nought, digitOf, withDigit, spelt, plain, numberFrom, numberField, exactFrom, unsignedField, decimalField, bitsOf, doubleField, same, flagField}
+use Rattle.ask_question.specs.declared.Asked.the-variants.{Round, Cross, Help}
+use Rattle.ask_question.specs.declared.Question.{Question}
+use Rattle.ask_question.specs.Questions.{text, words, askedOf, fieldOf, question, unreadable, filled, questionOf}
+
+-- two doubles by their bits, and zeros
+abbrev pub two : ℕ → ℕ → List Float
+two x y = ofBits binary64 x ∷ ofBits binary64 y ∷ replicate 6 nought
+
+abbrev pub lines : List String
+lines =
+    "round 1 0" ∷
+    "round 0.5 -0" ∷
+    "round -2.75 3fe0000000000000" ∷
+    "round 0.1 0" ∷
+    "round 01 0" ∷
+    "round 1  0" ∷
+    "round 1 0 " ∷
+    "round 1 0 0" ∷
+    "cross 0 2 s 14 0 4294967295 yes" ∷
+    "direction 0 4294967296" ∷
+    "help" ∷
+    "" ∷
+    []
+
+abbrev pub asked : List Question
+asked =
+    question Round (replicate 8 0) (two 0x3ff0_0000_0000_0000 0) ∷
+    question Round (replicate 8 0) (two 0x3fe0_0000_0000_0000 0x8000_0000_0000_0000) ∷
+    question Round (replicate 8 0) (two 0xc006_0000_0000_0000 0x3fe0_0000_0000_0000) ∷
+    unreadable ∷
+    unreadable ∷
+    unreadable ∷
+    unreadable ∷
+    unreadable ∷
+    question Cross (0 ∷ 2 ∷ 1 ∷ 14 ∷ 0 ∷ 4294967295 ∷ 1 ∷ 0 ∷ []) (replicate 8 nought) ∷
+    unreadable ∷
+    question Help (replicate 8 0) (replicate 8 nought) ∷
+    unreadable ∷
+    []
+
+pub examples : map (λ (s : String). questionOf (text s)) lines ≡ asked
+unfolding questionOf words filled askedOf fieldOf same flagField numberField numberFrom doubleField bitsOf decimalField unsignedField exactFrom plain spelt withDigit digitOf indexOf ofBits div neg ofInt
+examples = refl

@@ -1,0 +1,14 @@
+-- `named` meets its contract: the one question, or the other. Assumes nothing.
+use borrow.Author.Needs.{needs}
+use Rattle.ask_question.proofs.named.Statement.{statement}
+use Rattle.ask_question.proofs.named.Tie as tie
+
+returns : tie.Need-returns
+returns c = rw (← (c .before .is-same .ensures), c .if1 .taken)
+
+returns-2 : tie.Need-returns-2
+returns-2 c = rw (← (c .before .is-same .ensures), c .if1 .left)
+
+pub named-spec : {M : Type 1} → statement M
+named-spec = tie.close
+    (tie.spec (λ c κs. search needs) returns returns-2)

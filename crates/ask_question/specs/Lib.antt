@@ -1,0 +1,2 @@
+-- Definitions of `ask_question`: what a line asks.
+pub mod Questions

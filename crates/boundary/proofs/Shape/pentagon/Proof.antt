@@ -1,0 +1,39 @@
+-- `Shape::pentagon` meets its contract: the centre lies on its face, or is refused. Assumes nothing.
+use native.Mathlib.Omega.{arith}
+use Prim.Native.Nat.{_*_, _≤_, _<_}
+use borrow.Author.Tests.{lt-ltb, le-ltb}
+use Rattle.faceijk.specs.Places.{sumAt}
+use Rattle.boundary.specs.Boundaries.{withinOf}
+use Rattle.boundary.proofs.Verdicts.{turns-few}
+use borrow.Author.Needs.{needs}
+use Rattle.boundary.proofs.Shape.pentagon.Statement.{statement}
+use Rattle.boundary.proofs.Shape.pentagon.Tie as tie
+
+returns : tie.Need-returns
+unfolding withinOf
+returns c =
+    let s = c .before .before .before .before .before .before .before .args .self in
+    let far : 3 * s .cell .m < sumAt (s .cell .centre) = omega arith in
+    rw (lt-ltb _ _ far, c .refused .ensures)
+
+pentagon-walk-requires : tie.Need-pentagon-walk-requires
+pentagon-walk-requires c κs =
+    let a = c .before .before .before .before .before .before .before in (
+      record { solid = a .pre .0; near = omega arith },
+      omega (arith, c .turns-for .ensures, turns-few 5 (a .args .length) (omega (arith, a .pre .1, a .pre .2)), a .pre .2),
+      a .pre .2,
+    )
+
+returns-2 : tie.Need-returns-2
+unfolding withinOf
+returns-2 c =
+    let a = c .before .before .before .before .before .before .before .before in
+    let s = a .args .self in
+    let near : sumAt (s .cell .centre) ≤ 3 * s .cell .m = omega arith in
+    rw (le-ltb _ _ near, c .pentagon-walk .ensures, c .before .turns-for .ensures, a .pre .2)
+
+pub pentagon-spec : {M : Type 1} → statement M
+pentagon-spec =
+    tie.close
+    (tie.spec (λ c. search needs) (λ c. search needs) (λ c. search needs) (λ c. search needs) (λ c. search needs) (λ c. search
+    needs) (λ c. search needs) (λ c κs. search needs) returns (λ c κs. search needs) pentagon-walk-requires returns-2)

@@ -1,0 +1,26 @@
+-- `Shape::pentagon_before` meets its contract: each return by its tests. Assumes nothing.
+use borrow.Author.Needs.{needs}
+use mathlib.Core.Bool.{true}
+use mathlib.Core.Path.{_∙_}
+use Rattle.faceijk.proofs.Taking.{sound-at}
+use Rattle.boundary.proofs.Needed.{not-needed, pentagon-needed}
+use Rattle.boundary.proofs.Shape.pentagon_before.Statement.{statement}
+use Rattle.boundary.proofs.Shape.pentagon_before.Tie as tie
+
+returns : tie.Need-returns
+returns c = let a = c .before .args in not-needed (a .self) (a .k) (a .last) (a .now) (c .if1 .taken)
+
+pentagon-crossing-requires : tie.Need-pentagon-crossing-requires
+pentagon-crossing-requires c κs =
+    let a = c .before in
+    let s = a .pre .0 .solid in
+    (a .pre .1, s .grid, rw (s .grid) (sound-at (a .args .self .cell .level .0) true (s .level)))
+
+returns-2 : tie.Need-returns-2
+returns-2 c =
+    let b = c .before in
+    let a = b .before .args in
+    c .pentagon-crossing .ensures ∙ pentagon-needed (a .self) (a .k) (a .last) (a .now) (b .if1 .left) (b .before .pre .2)
+
+pub pentagon-before-spec : {M : Type 1} → statement M
+pentagon-before-spec = tie.close (tie.spec returns pentagon-crossing-requires returns-2)

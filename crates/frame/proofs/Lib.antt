@@ -1,0 +1,2 @@
+-- Laws of `frame`: how long the default frame is.
+pub mod Length

@@ -1,0 +1,2 @@
+-- Definitions of `frame`: the default frame by its bits.
+pub mod Default

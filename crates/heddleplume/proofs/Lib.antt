@@ -1,2 +1,0 @@
--- Laws of `heddleplume`: the three ways in which a C function ends.
-pub mod Lent

@@ -1,0 +1,50 @@
+-- `nearest` meets its contract: each of the two values goes into its own slice. Assumes nothing.
+use borrow.Author.Needs.{needs}
+use borrow.Author.Tests.{ltb-false}
+use lib.Dec.{ltb}
+use lib.ListN.{length}
+use mathlib.Core.Path.{sym, ap, _∙_}
+use Rattle.reply.proofs.Entries.{neither}
+use Rattle.vec3d.specs.Nearest.{saidNearest, nearestReply}
+use Rattle.lent_places.proofs.Ending.{nearest-short, nearest-answers, nearest-refuses}
+use Rattle.lent_places.proofs.nearest.Statement.{statement}
+use Rattle.lent_places.proofs.nearest.Tie as tie
+
+put1-requires : tie.Need-put1-requires
+put1-requires c κs = ltb-false _ 1 (neither _ _ (c .before .before .before .before .before .before .if1 .left) .0)
+
+put1-double-requires : tie.Need-put1-double-requires
+put1-double-requires c κs =
+    let e = c .before .before .before .before .before .before .before .before .before .before in
+    ltb-false _ 1 (neither (ltb (length (e .before .before .before .before .args .face .now)) 1) _ (e .if1 .left) .1)
+
+returns : tie.Need-returns
+returns c =
+    let a = c .before .before .before .before .before .args in
+    nearest-short (a .frame .now) _ (a .face .now) (a .distance .now) _ (c .before .if1 .taken) (c .frame-or-rows .ensures)
+
+returns-2 : tie.Need-returns-2
+returns-2 c =
+    let b = c .before .before .before .before .before .before .before .before .before in
+    let e = b .before .before .before .before in
+    let a = e .before .before .before .before .args in
+    nearest-answers (a .frame .now) _ (a .face .now) (a .distance .now) (b .nearest .given .0 .0) _ (c .before .before .put1-double .last .0) (e .if1 .left)
+    (ap saidNearest (sym (b .nearest .given .1)) ∙
+    (b .before .before .nearest-face .ensures ∙ ap (nearestReply (a .frame .now)) (b .before .before .before .new .ensures)))
+    (c .before .before .before .before .before .before .put1 .ensures) (c .before .before .put1-double .ensures)
+
+returns-3 : tie.Need-returns-3
+returns-3 c =
+    let b = c .before .before in
+    let e = b .before .before .before .before in
+    let a = e .before .before .before .before .args in
+    nearest-refuses (a .frame .now) _ (a .face .now) (a .distance .now) (b .nearest2 .given .0 .0) _ (e .if1 .left)
+    (ap saidNearest (sym (b .nearest2 .given .1)) ∙
+    (b .before .before .nearest-face .ensures ∙ ap (nearestReply (a .frame .now)) (b .before .before .before .new .ensures)))
+    (c .number .ensures)
+
+pub nearest-spec : {M : Type 1} → statement M
+nearest-spec =
+    tie.close
+    (tie.spec (λ c κs. search needs) returns (λ c κs. search needs) (λ c κs. search needs) (λ c. search needs) put1-requires
+    put1-double-requires (λ c. search needs) (λ c κs. search needs) (λ c. search needs) (λ c. search needs) returns-2 returns-3)

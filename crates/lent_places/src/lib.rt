@@ -1,0 +1,83 @@
+// What the C face does with a lent frame: the nearest face, a place, a batch. Each function returns the refusal's number, 0 for none, and
+// a refusal writes nothing. A bad frame gets 1 even where a slice is too short.
+ghost use mathlib.Core.Path.{_≡_};
+ghost use Rattle.reply.specs.Choice.{pick};
+ghost use Rattle.lent.specs.Lent.{GivesFramed, bitsOf};
+ghost use Rattle.vec3d.specs.Frame.{badFrame};
+ghost use Rattle.locate.specs.Locating.{locateReply};
+ghost use Rattle.lent_places.specs.Places.{vec, GivesNearest, GivesBatch};
+use level::CellLevel;
+use locate::Batch;
+use locate::Located;
+use reply::Refusal;
+use vec3d::NearestFace;
+use vec3d::Vec3d;
+
+// What a slice that is too short gets.
+fn frame_or_rows(frame: &[f64]) -> u32
+    ensures { λ r. ⌜ r ≡ pick (badFrame (now (frame .entry))) 1 2 ⌝ }
+{
+    if vec3d::bad_frame(frame) {
+        return Refusal::BadFrame.number();
+    }
+    Refusal::BadRows.number()
+}
+
+// The face nearest to a unit vector, and its squared distance.
+pub fn nearest(frame: &[f64], x: f64, y: f64, z: f64, face: &mut [u32], distance: &mut [f64]) -> u32
+    ensures { λ r. ⌜ GivesNearest (now (frame .entry)) (vec x y z) (now (face .entry)) (now (face .exit)) (bitsOf (now (distance .entry))) (bitsOf (now (distance .exit))) r ⌝ }
+{
+    if (face.len() < 1) | (distance.len() < 1) {
+        return frame_or_rows(frame);
+    }
+    let nearest = vec3d::nearest_face(frame, Vec3d::new(x, y, z));
+    match nearest {
+        NearestFace::Done(n) => {
+            lent::put1(face, n.face);
+            lent::put1_double(distance, n.distance);
+            0
+        }
+        NearestFace::Refused(refusal) => refusal.number(),
+    }
+}
+
+// The place of a unit vector at a cell level: face, i, j, k.
+pub fn place(frame: &[f64], x: f64, y: f64, z: f64, level: u32, out: &mut [u32]) -> u32
+    ensures { λ r. ⌜ GivesFramed (badFrame (now (frame .entry))) 4 (locateReply (now (frame .entry)) level (vec x y z)) (now (out .entry)) (now (out .exit)) r ⌝ }
+{
+    if out.len() < 4 {
+        return frame_or_rows(frame);
+    }
+    let located = locate::locate(frame, CellLevel(level), Vec3d::new(x, y, z));
+    match located {
+        Located::Done(p) => {
+            lent::put4(out, p.face, p.i, p.j, p.k);
+            0
+        }
+        Located::Refused(refusal) => refusal.number(),
+    }
+}
+
+// The places of a batch into lent rows, and how many were refused.
+pub fn batch(
+    frame: &[f64],
+    level: u32,
+    input: &[f64],
+    out: &mut [i32],
+    first: usize,
+    refused: &mut [u64],
+) -> u32
+    ensures { λ r. ⌜ GivesBatch (now (frame .entry)) level (now (input .entry)) first (now (out .entry)) (now (out .exit)) (now (refused .entry)) (now (refused .exit)) r ⌝ }
+{
+    if refused.len() < 1 {
+        return frame_or_rows(frame);
+    }
+    let batch = locate::locate_all(frame, CellLevel(level), input, out, first);
+    match batch {
+        Batch::Done(n) => {
+            lent::put1_wide(refused, n as u64);
+            0
+        }
+        Batch::Refused(refusal) => refusal.number(),
+    }
+}
