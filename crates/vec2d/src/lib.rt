@@ -205,15 +205,23 @@ impl Vec2d {
         }.fold(self.x < 0.0, self.y < 0.0)
     }
 
+    // The hexagon of the point x, y. The two stand apart, so that they come in registers: a point read back from memory at once costs a third more.
+    fn rounded(x: f64, y: f64) -> Rounded
+        ensures { λ r. ⌜ saidRounded r ≡ roundReply (point x y) ⌝ }
+    {
+        let at = Vec2d::new(x, y);
+        let verdict = at.verdict();
+        match verdict {
+            Verdict::Fine => Rounded::Done(at.nearest()),
+            Verdict::Refused(refusal) => Rounded::Refused(refusal),
+        }
+    }
+
     // The hexagon that holds the point, `From<Vec2d> for CoordIJK` of the source.
     pub fn to_ijk(self) -> Rounded
         ensures { λ r. ⌜ saidRounded r ≡ roundReply self ⌝ }
     {
-        let verdict = self.verdict();
-        match verdict {
-            Verdict::Fine => Rounded::Done(self.nearest()),
-            Verdict::Refused(refusal) => Rounded::Refused(refusal),
-        }
+        Vec2d::rounded(self.x, self.y)
     }
 
     // The centre of a hexagon by the bare formula, of any triple; boundaries use it.

@@ -1,6 +1,6 @@
 //! The four files of h3o 0.11.1 that were ported, compiled unchanged from docs/src over shims for what is not in the text given.
 //!
-//! They are compiled twice: `coord` as they are, and `plane` with a `Vec3d` that notes each plane point just before its
+//! `coord` has them as they are; `plane` has `faceijk.rs` once more, with a `Vec3d` that notes each plane point just before its
 //! projection, which is what a boundary of the port holds.
 #![allow(dead_code, unexpected_cfgs, unfulfilled_lint_expectations, clippy::all)]
 

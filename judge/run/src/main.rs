@@ -1,48 +1,85 @@
 //! Asks the Rust of docs/src and the proved library the same questions and compares every answer.
+mod bench;
+mod borders;
 mod chance;
 mod ours;
 mod places;
 mod plane;
 mod round;
+mod short;
+mod vectors;
 
-/// How many questions of one kind were asked, and how many answers differed.
+/// How many questions of one kind were asked, how many got each refusal, and how many answers differed.
 pub struct Tally {
     name: &'static str,
     asked: u64,
-    refused: u64,
+    refused: [u64; 15],
     differed: u64,
 }
 
 impl Tally {
     pub fn same<const N: usize>(&mut self, ours: ours::Said<N>, theirs: ours::Said<N>, what: impl Fn() -> String) {
         self.asked += 1;
-        self.refused += u64::from(theirs.number != 0);
-        if ours != theirs {
-            self.differed += 1;
-            if self.differed <= 5 {
-                println!("  {}: ours {ours:?}, theirs {theirs:?}", what());
-            }
+        self.refused[theirs.number as usize] += 1;
+        self.also(ours == theirs, || format!("{}: ours {ours:?}, theirs {theirs:?}", what()));
+    }
+
+    /// A question with one right answer, such as a slice that is too short.
+    pub fn holds(&mut self, right: bool, what: impl Fn() -> String) {
+        self.asked += 1;
+        self.also(right, what);
+    }
+
+    /// One more thing to be right about the answer to a question.
+    pub fn also(&mut self, right: bool, what: impl Fn() -> String) {
+        self.differed += u64::from(!right);
+        if !right && self.differed <= 5 {
+            println!("  wrong: {}", what());
         }
+    }
+
+    fn print(&self) {
+        let (Self { name, asked, differed, .. }, refused) = (self, self.refused[1..].iter().sum::<u64>());
+        let each: Vec<String> = (1..15).filter(|&n| self.refused[n] != 0).map(|n| format!("{n}: {}", self.refused[n])).collect();
+        println!("{name}: {asked} asked, {refused} refused by both ({}), {differed} differ", each.join(", "));
     }
 }
 
+/// A question's name and who asks it.
+type Question = (&'static str, fn(&mut Tally));
+
+const QUESTIONS: [Question; 17] = [
+    ("round", round::run),
+    ("centre", plane::run_centre),
+    ("meet", plane::run_meet),
+    ("direction", places::run_direction),
+    ("turn", places::run_turn),
+    ("step", places::run_step),
+    ("cross", places::run_cross),
+    ("settle", places::run_settle),
+    ("same corner", places::run_same),
+    ("short slices", short::run),
+    ("frame", vectors::run_frame),
+    ("nearest", vectors::run_nearest),
+    ("place", vectors::run_place),
+    ("batch", vectors::run_batch),
+    ("corners", borders::run_corners),
+    ("hexagon", borders::run_hexagon),
+    ("pentagon", borders::run_pentagon),
+];
+
+/// Asks all questions, or those named; `bench` times both sides instead.
 fn main() {
+    let names: Vec<String> = std::env::args().skip(1).collect();
+    if names == ["bench"] {
+        return bench::run();
+    }
     let mut bad = false;
-    let questions: [(&str, fn(&mut Tally)); 9] = [
-        ("round", round::run),
-        ("centre", plane::run_centre),
-        ("meet", plane::run_meet),
-        ("direction", places::run_direction),
-        ("turn", places::run_turn),
-        ("step", places::run_step),
-        ("cross", places::run_cross),
-        ("settle", places::run_settle),
-        ("same corner", places::run_same),
-    ];
-    for (name, run) in questions {
-        let mut tally = Tally { name, asked: 0, refused: 0, differed: 0 };
+    let wanted = |name: &str| names.is_empty() || names.iter().any(|n| n == name);
+    for (name, run) in QUESTIONS.into_iter().filter(|q| wanted(q.0)) {
+        let mut tally = Tally { name, asked: 0, refused: [0; 15], differed: 0 };
         run(&mut tally);
-        println!("{}: {} asked, {} refused by both, {} differ", tally.name, tally.asked, tally.refused, tally.differed);
+        tally.print();
         bad |= tally.differed != 0;
     }
     std::process::exit(i32::from(bad));

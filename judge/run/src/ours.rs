@@ -12,6 +12,80 @@ unsafe extern "C" {
     fn heddleplume_same_corner(
         face: u32, i: u32, j: u32, k: u32, other_face: u32, other_i: u32, other_j: u32, other_k: u32, out: *mut u32, len: usize,
     ) -> u32;
+    fn heddleplume_nearest(
+        frame: *const f64, frame_len: usize, x: f64, y: f64, z: f64, face: *mut u32, face_len: usize, distance: *mut f64, distance_len: usize,
+    ) -> u32;
+    fn heddleplume_place(frame: *const f64, frame_len: usize, x: f64, y: f64, z: f64, level: u32, out: *mut u32, len: usize) -> u32;
+    fn heddleplume_batch(
+        frame: *const f64, frame_len: usize, level: u32, input: *const f64, input_len: usize, out: *mut i32, out_len: usize, first: usize,
+        refused: *mut u64, refused_len: usize,
+    ) -> u32;
+    fn heddleplume_corners(face: u32, i: u32, j: u32, k: u32, level: u32, out: *mut u32, len: usize) -> u32;
+    fn heddleplume_hexagon(
+        face: u32, i: u32, j: u32, k: u32, level: u32, start: u32, length: u32, marks: *mut u32, marks_len: usize, points: *mut f64, points_len: usize,
+    ) -> u32;
+    fn heddleplume_pentagon(
+        face: u32, i: u32, j: u32, k: u32, level: u32, start: u32, length: u32, marks: *mut u32, marks_len: usize, points: *mut f64, points_len: usize,
+    ) -> u32;
+    fn heddleplume_frame(out: *mut f64, len: usize) -> u32;
+}
+
+/// The C functions over slices of any length.
+pub mod bare {
+    use super::*;
+
+    pub fn round((x, y): (f64, f64), out: &mut [u32]) -> u32 {
+        unsafe { heddleplume_round(x, y, out.as_mut_ptr(), out.len()) }
+    }
+    pub fn centre((i, j, k): (u32, u32, u32), out: &mut [f64]) -> u32 {
+        unsafe { heddleplume_centre(i, j, k, out.as_mut_ptr(), out.len()) }
+    }
+    pub fn meet(lines: &[f64], out: &mut [f64]) -> u32 {
+        unsafe { heddleplume_meet(lines.as_ptr(), lines.len(), out.as_mut_ptr(), out.len()) }
+    }
+    pub fn direction(from: u32, to: u32, out: &mut [u32]) -> u32 {
+        unsafe { heddleplume_direction(from, to, out.as_mut_ptr(), out.len()) }
+    }
+    pub fn turn((f, i, j, k): At, clockwise: bool, out: &mut [u32]) -> u32 {
+        unsafe { heddleplume_turn(f, i, j, k, clockwise, out.as_mut_ptr(), out.len()) }
+    }
+    pub fn step((f, i, j, k): At, level: u32, substrate: bool, edge: u32, out: &mut [u32]) -> u32 {
+        unsafe { heddleplume_step(f, i, j, k, level, substrate, edge, out.as_mut_ptr(), out.len()) }
+    }
+    pub fn cross((f, i, j, k): At, level: u32, substrate: bool, turn: bool, out: &mut [u32]) -> u32 {
+        unsafe { heddleplume_cross(f, i, j, k, level, substrate, turn, out.as_mut_ptr(), out.len()) }
+    }
+    pub fn same_corner((f, i, j, k): At, (g, x, y, z): At, out: &mut [u32]) -> u32 {
+        unsafe { heddleplume_same_corner(f, i, j, k, g, x, y, z, out.as_mut_ptr(), out.len()) }
+    }
+    pub fn settle((f, i, j, k): At, level: u32, substrate: bool, out: &mut [u64]) -> u32 {
+        unsafe { heddleplume_settle(f, i, j, k, level, substrate, out.as_mut_ptr(), out.len()) }
+    }
+    pub fn nearest(frame: &[f64], [x, y, z]: Vector, face: &mut [u32], distance: &mut [f64]) -> u32 {
+        let (f, d) = ((face.as_mut_ptr(), face.len()), (distance.as_mut_ptr(), distance.len()));
+        unsafe { heddleplume_nearest(frame.as_ptr(), frame.len(), x, y, z, f.0, f.1, d.0, d.1) }
+    }
+    pub fn place(frame: &[f64], [x, y, z]: Vector, level: u32, out: &mut [u32]) -> u32 {
+        unsafe { heddleplume_place(frame.as_ptr(), frame.len(), x, y, z, level, out.as_mut_ptr(), out.len()) }
+    }
+    pub fn batch(frame: &[f64], level: u32, input: &[f64], out: &mut [i32], first: usize, refused: &mut [u64]) -> u32 {
+        let (o, r) = ((out.as_mut_ptr(), out.len()), (refused.as_mut_ptr(), refused.len()));
+        unsafe { heddleplume_batch(frame.as_ptr(), frame.len(), level, input.as_ptr(), input.len(), o.0, o.1, first, r.0, r.1) }
+    }
+    pub fn corners((f, i, j, k): At, level: u32, out: &mut [u32]) -> u32 {
+        unsafe { heddleplume_corners(f, i, j, k, level, out.as_mut_ptr(), out.len()) }
+    }
+    pub fn hexagon((f, i, j, k): At, level: u32, (start, length): (u32, u32), marks: &mut [u32], points: &mut [f64]) -> u32 {
+        let (m, p) = ((marks.as_mut_ptr(), marks.len()), (points.as_mut_ptr(), points.len()));
+        unsafe { heddleplume_hexagon(f, i, j, k, level, start, length, m.0, m.1, p.0, p.1) }
+    }
+    pub fn pentagon((f, i, j, k): At, level: u32, (start, length): (u32, u32), marks: &mut [u32], points: &mut [f64]) -> u32 {
+        let (m, p) = ((marks.as_mut_ptr(), marks.len()), (points.as_mut_ptr(), points.len()));
+        unsafe { heddleplume_pentagon(f, i, j, k, level, start, length, m.0, m.1, p.0, p.1) }
+    }
+    pub fn frame(out: &mut [f64]) -> u32 {
+        unsafe { heddleplume_frame(out.as_mut_ptr(), out.len()) }
+    }
 }
 
 /// What an entry gave back: the refusal's number, 0 for none, and what its lent slice then held.
@@ -34,61 +108,106 @@ impl<const N: usize> Said<N> {
 }
 
 /// Calls with a slice that is one longer than the values, and sees that the last element stays.
-fn asked<const N: usize, const M: usize>(call: impl Fn(*mut u32, usize) -> u32) -> Said<N> {
+fn asked<const N: usize, const M: usize>(call: impl FnOnce(&mut [u32]) -> u32) -> Said<N> {
     const { assert!(M == N + 1) };
     let mut out = [UNTOUCHED; M];
-    let number = call(out.as_mut_ptr(), M);
+    let number = call(&mut out);
     assert_eq!(out[N], UNTOUCHED, "an element past the values was written");
     Said { number, values: std::array::from_fn(|n| out[n].into()) }
 }
 
 /// The same for doubles, which are compared by their bits.
-fn asked_doubles<const N: usize, const M: usize>(call: impl Fn(*mut f64, usize) -> u32) -> Said<N> {
+fn asked_doubles<const N: usize, const M: usize>(call: impl FnOnce(&mut [f64]) -> u32) -> Said<N> {
     const { assert!(M == N + 1) };
     let untouched = f64::from_bits(UNTOUCHED.into());
     let mut out = [untouched; M];
-    let number = call(out.as_mut_ptr(), M);
+    let number = call(&mut out);
     assert_eq!(out[N].to_bits(), u64::from(UNTOUCHED), "an element past the values was written");
     Said { number, values: std::array::from_fn(|n| out[n].to_bits()) }
-}
-
-pub fn centre((i, j, k): (u32, u32, u32)) -> Said<2> {
-    asked_doubles::<2, 3>(|out, len| unsafe { heddleplume_centre(i, j, k, out, len) })
-}
-
-pub fn meet(lines: &[f64]) -> Said<2> {
-    asked_doubles::<2, 3>(|out, len| unsafe { heddleplume_meet(lines.as_ptr(), lines.len(), out, len) })
 }
 
 /// A place: face, i, j, k.
 pub type At = (u32, u32, u32, u32);
 
+/// A vector: x, y, z.
+pub type Vector = [f64; 3];
+
 pub fn round(x: f64, y: f64) -> Said<3> {
-    asked::<3, 4>(|out, len| unsafe { heddleplume_round(x, y, out, len) })
+    asked::<3, 4>(|out| bare::round((x, y), out))
+}
+
+pub fn centre(at: (u32, u32, u32)) -> Said<2> {
+    asked_doubles::<2, 3>(|out| bare::centre(at, out))
+}
+
+pub fn meet(lines: &[f64]) -> Said<2> {
+    asked_doubles::<2, 3>(|out| bare::meet(lines, out))
 }
 
 pub fn direction(from: u32, to: u32) -> Said<1> {
-    asked::<1, 2>(|out, len| unsafe { heddleplume_direction(from, to, out, len) })
+    asked::<1, 2>(|out| bare::direction(from, to, out))
 }
 
-pub fn turn((f, i, j, k): At, clockwise: bool) -> Said<4> {
-    asked::<4, 5>(|out, len| unsafe { heddleplume_turn(f, i, j, k, clockwise, out, len) })
+pub fn turn(at: At, clockwise: bool) -> Said<4> {
+    asked::<4, 5>(|out| bare::turn(at, clockwise, out))
 }
 
-pub fn step((f, i, j, k): At, level: u32, substrate: bool, edge: u32) -> Said<4> {
-    asked::<4, 5>(|out, len| unsafe { heddleplume_step(f, i, j, k, level, substrate, edge, out, len) })
+pub fn step(at: At, level: u32, substrate: bool, edge: u32) -> Said<4> {
+    asked::<4, 5>(|out| bare::step(at, level, substrate, edge, out))
 }
 
-pub fn cross((f, i, j, k): At, level: u32, substrate: bool, turn: bool) -> Said<5> {
-    asked::<5, 6>(|out, len| unsafe { heddleplume_cross(f, i, j, k, level, substrate, turn, out, len) })
+pub fn cross(at: At, level: u32, substrate: bool, turn: bool) -> Said<5> {
+    asked::<5, 6>(|out| bare::cross(at, level, substrate, turn, out))
 }
 
-pub fn settle((f, i, j, k): At, level: u32, substrate: bool) -> Said<5> {
-    let mut values = [u64::from(UNTOUCHED); 5];
-    let number = unsafe { heddleplume_settle(f, i, j, k, level, substrate, values.as_mut_ptr(), values.len()) };
-    Said { number, values }
+pub fn settle(at: At, level: u32, substrate: bool) -> Said<5> {
+    let mut out = [u64::from(UNTOUCHED); 6];
+    let number = bare::settle(at, level, substrate, &mut out);
+    assert_eq!(out[5], u64::from(UNTOUCHED), "an element past the values was written");
+    Said { number, values: std::array::from_fn(|n| out[n]) }
 }
 
-pub fn same_corner((f, i, j, k): At, (g, x, y, z): At) -> Said<1> {
-    asked::<1, 2>(|out, len| unsafe { heddleplume_same_corner(f, i, j, k, g, x, y, z, out, len) })
+pub fn same_corner(a: At, b: At) -> Said<1> {
+    asked::<1, 2>(|out| bare::same_corner(a, b, out))
+}
+
+pub fn nearest(frame: &[f64], v: Vector) -> Said<2> {
+    let mut face = [UNTOUCHED; 2];
+    let distance = asked_doubles::<1, 2>(|out| bare::nearest(frame, v, &mut face, out));
+    assert_eq!(face[1], UNTOUCHED, "an element past the face was written");
+    Said { number: distance.number, values: [face[0].into(), distance.values[0]] }
+}
+
+pub fn place(frame: &[f64], v: Vector, level: u32) -> Said<4> {
+    asked::<4, 5>(|out| bare::place(frame, v, level, out))
+}
+
+/// How many rows of a batch were refused; the rows stand in `out`.
+pub fn batch(frame: &[f64], level: u32, input: &[f64], out: &mut [i32], first: usize) -> Said<1> {
+    let mut refused = [u64::from(UNTOUCHED); 2];
+    let number = bare::batch(frame, level, input, out, first, &mut refused);
+    assert_eq!(refused[1], u64::from(UNTOUCHED), "an element past the count was written");
+    Said { number, values: [refused[0]] }
+}
+
+pub fn corners(at: At, level: u32) -> Said<19> {
+    asked::<19, 20>(|out| bare::corners(at, level, out))
+}
+
+/// The marks (count, then face and mark twelve times), and the bits of the points (x and y twelve times).
+pub type Border = Said<49>;
+
+/// One of `bare::hexagon` and `bare::pentagon`.
+pub type Outline = fn(At, u32, (u32, u32), &mut [u32], &mut [f64]) -> u32;
+
+pub fn border(outline: Outline, at: At, level: u32, part: (u32, u32)) -> Border {
+    let mut marks = [UNTOUCHED; 26];
+    let points = asked_doubles::<24, 25>(|out| outline(at, level, part, &mut marks, out));
+    assert_eq!(marks[25], UNTOUCHED, "an element past the marks was written");
+    let value = |n: usize| if n < 25 { marks[n].into() } else { points.values[n - 25] };
+    Said { number: points.number, values: std::array::from_fn(value) }
+}
+
+pub fn frame() -> Said<180> {
+    asked_doubles::<180, 181>(bare::frame)
 }

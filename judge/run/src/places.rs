@@ -3,9 +3,9 @@ use crate::{Tally, chance::Chance, ours, ours::{At, Said}};
 use h3o::coord::{CoordIJK, FaceIJK, Overage};
 use h3o::{ExtendedResolution, Face, face};
 
-const LARGEST: u32 = 1 << 26;
+pub const LARGEST: u32 = 1 << 26;
 
-fn limit(level: u32, substrate: bool) -> u32 {
+pub fn limit(level: u32, substrate: bool) -> u32 {
     2 * 7u32.pow(level / 2) * if substrate { 3 } else { 1 }
 }
 
@@ -13,15 +13,15 @@ fn coord((_, i, j, k): At) -> CoordIJK {
     CoordIJK::new(i as i32, j as i32, k as i32)
 }
 
-fn place(at: At) -> FaceIJK {
+pub fn place(at: At) -> FaceIJK {
     FaceIJK::new(Face::new_unchecked(at.0 as usize), coord(at))
 }
 
-fn numbers(p: FaceIJK) -> [u64; 4] {
+pub fn numbers(p: FaceIJK) -> [u64; 4] {
     [usize::from(p.face) as u64, p.coord.i() as u64, p.coord.j() as u64, p.coord.k() as u64]
 }
 
-fn not_reduced((_, i, j, k): At) -> bool {
+pub fn not_reduced((_, i, j, k): At) -> bool {
     i.min(j).min(k) != 0 || i.max(j).max(k) > LARGEST
 }
 
@@ -148,7 +148,7 @@ fn around(level: u32, substrate: bool) -> u32 {
 }
 
 /// All reduced places with coordinates up to n, on all faces and some that are none.
-fn each(n: u32, mut ask: impl FnMut(At)) {
+pub fn each(n: u32, mut ask: impl FnMut(At)) {
     for f in 0..22 {
         for i in 0..=n {
             for j in 0..=n {

@@ -1,36 +1,57 @@
-//! `faceijk.rs` and `vec2d.rs` once more, with a `Vec3d` that keeps the plane point it would have projected.
+//! `faceijk.rs` once more, with a `Vec2d` that knows whether two lines made it, and a `Vec3d` that keeps the plane point it
+//! would have projected.
 #[path = "../../../../docs/src/src/coord/faceijk.rs"]
 mod faceijk;
-#[path = "../../../../docs/src/src/coord/vec2d.rs"]
-mod vec2d;
 
 pub use crate::coord::CoordIJK;
 pub use faceijk::{FaceIJK, Overage};
-pub use vec2d::Vec2d;
 
-use crate::{ExtendedResolution, Face, Resolution};
-use std::cell::Cell;
+use crate::{ExtendedResolution, Face, Resolution, coord};
 
-pub const SQRT3_2: f64 = 0.8660254037844386;
+pub const SQRT3_2: f64 = coord::SQRT3_2;
 
-thread_local! {
-    // The bits of the last point made from coordinates: a corner is such a point, a crossing point is not.
-    static LAST: Cell<(u64, u64)> = const { Cell::new((0, 0)) };
+/// The source's plane point, and whether it is where two lines meet: a crossing point may have the bits of a corner.
+#[derive(Debug, Clone, Copy)]
+pub struct Vec2d {
+    at: coord::Vec2d,
+    met: bool,
+}
+
+/// What a boundary panics with at two lines that do not meet: document 01 refuses there, before anything that follows.
+pub struct NoCrossing;
+
+impl Vec2d {
+    pub const fn new(x: f64, y: f64) -> Self {
+        Self { at: coord::Vec2d::new(x, y), met: false }
+    }
+    pub fn intersection(line1: (Self, Self), line2: (Self, Self)) -> Self {
+        let at = coord::Vec2d::intersection((line1.0.at, line1.1.at), (line2.0.at, line2.1.at));
+        // a divisor of zero leaves no finite result either
+        if !at.x.is_finite() || !at.y.is_finite() {
+            std::panic::panic_any(NoCrossing);
+        }
+        Self { at, met: true }
+    }
+    pub fn from_vec3d(_value: Vec3d, _resolution: Resolution, _face: Face, _distance: f64) -> Self {
+        unreachable!("places are asked of `coord`")
+    }
+}
+
+impl PartialEq for Vec2d {
+    fn eq(&self, other: &Self) -> bool {
+        self.at == other.at
+    }
 }
 
 impl From<CoordIJK> for Vec2d {
     fn from(value: CoordIJK) -> Self {
-        let i = f64::from(value.i() - value.k());
-        let j = f64::from(value.j() - value.k());
-        let at = Self::new(i - j / 2., j * SQRT3_2);
-        LAST.set((at.x.to_bits(), at.y.to_bits()));
-        at
+        Self { at: value.into(), met: false }
     }
 }
 
-impl From<Vec2d> for Noted {
-    fn from(_: Vec2d) -> Self {
-        unreachable!()
+impl From<Vec2d> for CoordIJK {
+    fn from(value: Vec2d) -> Self {
+        value.at.into()
     }
 }
 
@@ -66,8 +87,7 @@ pub struct Vec3d(Noted);
 
 impl Vec3d {
     pub fn from_vec2d(value: Vec2d, face: Face, _level: ExtendedResolution, _is_substrate: bool) -> Self {
-        let corner = LAST.get() == (value.x.to_bits(), value.y.to_bits());
-        Self(Noted { face: usize::from(face) as u32, x: value.x, y: value.y, corner })
+        Self(Noted { face: usize::from(face) as u32, x: value.at.x, y: value.at.y, corner: !value.met })
     }
     pub fn closest_face(self) -> (Face, f64) {
         unreachable!("places are asked of `coord`")
@@ -80,18 +100,6 @@ impl Vec3d {
 impl From<Vec3d> for Noted {
     fn from(value: Vec3d) -> Self {
         value.0
-    }
-}
-
-/// Stands for `FaceProjection`.
-pub struct FaceProjection;
-
-impl FaceProjection {
-    pub fn new(_value: Vec3d, _face: Face, _distance: f64) -> Self {
-        unreachable!("places are asked of `coord`")
-    }
-    pub fn compute_vec2d(&mut self, _resolution: Resolution) -> Vec2d {
-        unreachable!("places are asked of `coord`")
     }
 }
 

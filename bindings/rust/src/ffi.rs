@@ -1,0 +1,122 @@
+//! The C functions of include/heddleplume.h, each under a function on slices. All unsafe code of this crate stands here.
+//!
+//! Every reason below is the same one: the C function takes a pointer with a length, keeps neither, and reads and writes no more than
+//! that length. A slice gives just such a pair; `&mut` overlaps nothing else. What the lengths must be, the library tests itself.
+
+mod c {
+    // The prototypes of include/heddleplume.h, parameter by parameter.
+    #[rustfmt::skip]
+    unsafe extern "C" {
+        pub fn heddleplume_frame(out: *mut f64, out_len: usize) -> u32;
+        pub fn heddleplume_nearest(frame: *const f64, frame_len: usize, x: f64, y: f64, z: f64, face: *mut u32, face_len: usize, distance: *mut f64, distance_len: usize) -> u32;
+        pub fn heddleplume_place(frame: *const f64, frame_len: usize, x: f64, y: f64, z: f64, level: u32, out: *mut u32, out_len: usize) -> u32;
+        pub fn heddleplume_batch(frame: *const f64, frame_len: usize, level: u32, input: *const f64, input_len: usize, out: *mut i32, out_len: usize, first: usize, refused: *mut u64, refused_len: usize) -> u32;
+        pub fn heddleplume_round(x: f64, y: f64, out: *mut u32, out_len: usize) -> u32;
+        pub fn heddleplume_centre(i: u32, j: u32, k: u32, out: *mut f64, out_len: usize) -> u32;
+        pub fn heddleplume_meet(lines: *const f64, lines_len: usize, out: *mut f64, out_len: usize) -> u32;
+        pub fn heddleplume_direction(from: u32, to: u32, out: *mut u32, out_len: usize) -> u32;
+        pub fn heddleplume_turn(face: u32, i: u32, j: u32, k: u32, clockwise: bool, out: *mut u32, out_len: usize) -> u32;
+        pub fn heddleplume_step(face: u32, i: u32, j: u32, k: u32, level: u32, substrate: bool, edge: u32, out: *mut u32, out_len: usize) -> u32;
+        pub fn heddleplume_cross(face: u32, i: u32, j: u32, k: u32, level: u32, substrate: bool, turn: bool, out: *mut u32, out_len: usize) -> u32;
+        pub fn heddleplume_settle(face: u32, i: u32, j: u32, k: u32, level: u32, substrate: bool, out: *mut u64, out_len: usize) -> u32;
+        pub fn heddleplume_same_corner(face: u32, i: u32, j: u32, k: u32, other_face: u32, other_i: u32, other_j: u32, other_k: u32, out: *mut u32, out_len: usize) -> u32;
+        pub fn heddleplume_corners(face: u32, i: u32, j: u32, k: u32, level: u32, out: *mut u32, out_len: usize) -> u32;
+        pub fn heddleplume_hexagon(face: u32, i: u32, j: u32, k: u32, level: u32, start: u32, length: u32, marks: *mut u32, marks_len: usize, points: *mut f64, points_len: usize) -> u32;
+        pub fn heddleplume_pentagon(face: u32, i: u32, j: u32, k: u32, level: u32, start: u32, length: u32, marks: *mut u32, marks_len: usize, points: *mut f64, points_len: usize) -> u32;
+    }
+}
+
+/// A face and its coordinates, as the C functions take them.
+pub type Four = [u32; 4];
+
+pub fn frame(out: &mut [f64]) -> u32 {
+    // SAFETY: a slice with its own length.
+    unsafe { c::heddleplume_frame(out.as_mut_ptr(), out.len()) }
+}
+
+pub fn nearest(frame: &[f64], [x, y, z]: [f64; 3], face: &mut [u32], distance: &mut [f64]) -> u32 {
+    let (faces, distances) = (face.len(), distance.len());
+    // SAFETY: three slices, each with its own length.
+    unsafe { c::heddleplume_nearest(frame.as_ptr(), frame.len(), x, y, z, face.as_mut_ptr(), faces, distance.as_mut_ptr(), distances) }
+}
+
+pub fn place(frame: &[f64], [x, y, z]: [f64; 3], level: u32, out: &mut [u32]) -> u32 {
+    // SAFETY: two slices, each with its own length.
+    unsafe { c::heddleplume_place(frame.as_ptr(), frame.len(), x, y, z, level, out.as_mut_ptr(), out.len()) }
+}
+
+pub fn batch(frame: &[f64], level: u32, input: &[f64], out: &mut [i32], first: usize, refused: &mut [u64]) -> u32 {
+    let (frame, frames) = (frame.as_ptr(), frame.len());
+    let (out, outs) = (out.as_mut_ptr(), out.len());
+    // SAFETY: four slices, each with its own length.
+    unsafe {
+        c::heddleplume_batch(frame, frames, level, input.as_ptr(), input.len(), out, outs, first, refused.as_mut_ptr(), refused.len())
+    }
+}
+
+pub fn round(x: f64, y: f64, out: &mut [u32]) -> u32 {
+    // SAFETY: a slice with its own length.
+    unsafe { c::heddleplume_round(x, y, out.as_mut_ptr(), out.len()) }
+}
+
+pub fn centre([i, j, k]: [u32; 3], out: &mut [f64]) -> u32 {
+    // SAFETY: a slice with its own length.
+    unsafe { c::heddleplume_centre(i, j, k, out.as_mut_ptr(), out.len()) }
+}
+
+pub fn meet(lines: &[f64], out: &mut [f64]) -> u32 {
+    // SAFETY: two slices, each with its own length.
+    unsafe { c::heddleplume_meet(lines.as_ptr(), lines.len(), out.as_mut_ptr(), out.len()) }
+}
+
+pub fn direction(from: u32, to: u32, out: &mut [u32]) -> u32 {
+    // SAFETY: a slice with its own length.
+    unsafe { c::heddleplume_direction(from, to, out.as_mut_ptr(), out.len()) }
+}
+
+pub fn turn([face, i, j, k]: Four, clockwise: bool, out: &mut [u32]) -> u32 {
+    // SAFETY: a slice with its own length.
+    unsafe { c::heddleplume_turn(face, i, j, k, clockwise, out.as_mut_ptr(), out.len()) }
+}
+
+pub fn step([face, i, j, k]: Four, level: u32, substrate: bool, edge: u32, out: &mut [u32]) -> u32 {
+    // SAFETY: a slice with its own length.
+    unsafe { c::heddleplume_step(face, i, j, k, level, substrate, edge, out.as_mut_ptr(), out.len()) }
+}
+
+pub fn cross([face, i, j, k]: Four, level: u32, substrate: bool, turn: bool, out: &mut [u32]) -> u32 {
+    // SAFETY: a slice with its own length.
+    unsafe { c::heddleplume_cross(face, i, j, k, level, substrate, turn, out.as_mut_ptr(), out.len()) }
+}
+
+pub fn settle([face, i, j, k]: Four, level: u32, substrate: bool, out: &mut [u64]) -> u32 {
+    // SAFETY: a slice with its own length.
+    unsafe { c::heddleplume_settle(face, i, j, k, level, substrate, out.as_mut_ptr(), out.len()) }
+}
+
+pub fn same_corner([face, i, j, k]: Four, [face2, i2, j2, k2]: Four, out: &mut [u32]) -> u32 {
+    // SAFETY: a slice with its own length.
+    unsafe { c::heddleplume_same_corner(face, i, j, k, face2, i2, j2, k2, out.as_mut_ptr(), out.len()) }
+}
+
+pub fn corners([face, i, j, k]: Four, level: u32, out: &mut [u32]) -> u32 {
+    // SAFETY: a slice with its own length.
+    unsafe { c::heddleplume_corners(face, i, j, k, level, out.as_mut_ptr(), out.len()) }
+}
+
+pub fn hexagon(centre: Four, level: u32, start: u32, length: u32, marks: &mut [u32], points: &mut [f64]) -> u32 {
+    let [face, i, j, k] = centre;
+    let (marks, marked) = (marks.as_mut_ptr(), marks.len());
+    // SAFETY: two slices, each with its own length.
+    unsafe { c::heddleplume_hexagon(face, i, j, k, level, start, length, marks, marked, points.as_mut_ptr(), points.len()) }
+}
+
+pub fn pentagon(centre: Four, level: u32, start: u32, length: u32, marks: &mut [u32], points: &mut [f64]) -> u32 {
+    let [face, i, j, k] = centre;
+    let (marks, marked) = (marks.as_mut_ptr(), marks.len());
+    // SAFETY: two slices, each with its own length.
+    unsafe { c::heddleplume_pentagon(face, i, j, k, level, start, length, marks, marked, points.as_mut_ptr(), points.len()) }
+}
+
+#[cfg(test)]
+mod tests;

@@ -1,0 +1,314 @@
+//! What the lent memory holds after each call: nothing new after a refusal, nothing new past an answer. Every refusal that a C function
+//! can give is asked for here; none is known that gets 13 for a border.
+use super::*;
+
+const NAN3: [f64; 3] = [f64::NAN; 3];
+const X: [f64; 3] = [1.0, 0.0, 0.0];
+const LONG: [f64; 3] = [1.0, 1.0, 0.0];
+/// Face 20; coordinates that are not reduced; a good place.
+const FACE: Four = [20, 1, 0, 0];
+const UNREDUCED: Four = [0, 1, 1, 1];
+const GOOD: Four = [0, 1, 0, 0];
+const OLD: u32 = 99;
+const OLD_DOUBLE: f64 = -7.5;
+
+fn default_frame() -> [f64; 180] {
+    let mut out = [0.0; 180];
+    assert_eq!(frame(&mut out), 0);
+    out
+}
+
+/// Twenty faces that all look at the sky: a frame that passes its test, and has vectors behind every face.
+fn one_sided_frame() -> [f64; 180] {
+    let face = [0.0, 0.0, 1.0, 1.0, 0.0, 0.0, 0.0, 1.0, 0.0];
+    std::array::from_fn(|n| face[n % 9])
+}
+
+/// Lends `lent` numbers and expects this refusal, and the numbers as they were.
+fn refused(number: u32, lent: usize, ask: impl Fn(&mut [u32]) -> u32) {
+    let mut out = vec![OLD; lent];
+    assert_eq!(ask(&mut out), number);
+    assert!(out.iter().all(|&n| n == OLD), "a refusal {number} wrote");
+}
+
+fn refused_doubles(number: u32, lent: usize, ask: impl Fn(&mut [f64]) -> u32) {
+    let mut out = vec![OLD_DOUBLE; lent];
+    assert_eq!(ask(&mut out), number);
+    assert!(out.iter().all(|&n| n == OLD_DOUBLE), "a refusal {number} wrote");
+}
+
+/// Lends two more than needed and expects these values, and past them the numbers as they were.
+fn answers(values: &[u32], ask: impl Fn(&mut [u32]) -> u32) {
+    let mut out = vec![OLD; values.len() + 2];
+    assert_eq!(ask(&mut out), 0);
+    assert_eq!(out, [values, &[OLD, OLD]].concat());
+}
+
+fn answers_doubles(values: &[f64], ask: impl Fn(&mut [f64]) -> u32) {
+    let mut out = vec![OLD_DOUBLE; values.len() + 2];
+    assert_eq!(ask(&mut out), 0);
+    assert_eq!(out, [values, &[OLD_DOUBLE, OLD_DOUBLE]].concat());
+}
+
+#[test]
+fn frame_wants_180() {
+    refused_doubles(2, 0, frame);
+    refused_doubles(2, 179, frame);
+    answers_doubles(&default_frame(), frame);
+}
+
+#[test]
+fn round_refuses_2_6_9() {
+    refused(2, 2, |out| round(0.0, 0.0, out));
+    refused(2, 2, |out| round(f64::NAN, 0.0, out));
+    for bad in [f64::NAN, f64::INFINITY, f64::NEG_INFINITY] {
+        refused(6, 3, |out| round(bad, 0.0, out));
+        refused(6, 3, |out| round(f64::MAX, bad, out));
+    }
+    refused(9, 3, |out| round(0.0, -33554432.0, out));
+    answers(&[1, 0, 0], |out| round(1.0, 0.0, out));
+}
+
+#[test]
+fn centre_refuses_2_10() {
+    refused_doubles(2, 1, |out| centre([1, 1, 1], out));
+    refused_doubles(10, 2, |out| centre([1, 1, 1], out));
+    refused_doubles(10, 2, |out| centre([(1 << 26) + 1, 0, 0], out));
+    refused_doubles(10, 2, |out| centre([-1i32 as u32, 0, 0], out));
+    answers_doubles(&[67108864.0, 0.0], |out| centre([1 << 26, 0, 0], out));
+}
+
+#[test]
+fn meet_refuses_2_6_13() {
+    let lines = [-1.0, 0.0, 1.0, 0.0, 0.5, -1.0, 0.5, 1.0];
+    let parallel = [0.0, 0.0, 1.0, 0.0, 0.0, 1.0, 1.0, 1.0];
+    let unknown = [0.0, 0.0, f64::NAN, 0.0, 0.0, 1.0, 1.0, 1.0];
+    refused_doubles(2, 1, |out| meet(&lines, out));
+    refused_doubles(2, 2, |out| meet(&lines[..7], out));
+    refused_doubles(2, 2, |out| meet(&[lines, lines].concat(), out));
+    refused_doubles(6, 2, |out| meet(&unknown, out));
+    refused_doubles(13, 2, |out| meet(&parallel, out));
+    answers_doubles(&[0.5, 0.0], |out| meet(&lines, out));
+}
+
+#[test]
+fn direction_refuses_2_3() {
+    refused(2, 0, |out| direction(0, 20, out));
+    refused(3, 1, |out| direction(0, 20, out));
+    refused(3, 1, |out| direction(20, 0, out));
+    answers(&[0], |out| direction(0, 0, out));
+}
+
+#[test]
+fn turn_refuses_2_3_10() {
+    refused(2, 3, |out| turn(FACE, false, out));
+    refused(3, 4, |out| turn([20, 1, 1, 1], false, out));
+    refused(10, 4, |out| turn(UNREDUCED, true, out));
+    answers(&[0, 1, 1, 0], |out| turn(GOOD, false, out));
+    answers(&[0, 1, 0, 1], |out| turn(GOOD, true, out));
+}
+
+#[test]
+fn step_refuses_2_3_4_5_10() {
+    refused(2, 3, |out| step(FACE, 0, false, 1, out));
+    refused(3, 4, |out| step([20, 1, 1, 1], 1, false, 0, out));
+    for level in [1, 17, 18, 256, u32::MAX] {
+        refused(4, 4, |out| step(UNREDUCED, level, false, 0, out));
+    }
+    for edge in [0, 4, 7, u32::MAX] {
+        refused(5, 4, |out| step(UNREDUCED, 0, false, edge, out));
+    }
+    refused(10, 4, |out| step(UNREDUCED, 0, true, 1, out));
+    answers(&[4, 3, 1, 0], |out| step([0, 3, 0, 0], 0, false, 1, out));
+}
+
+#[test]
+fn cross_refuses_2_3_4_10() {
+    refused(2, 4, |out| cross(FACE, 0, false, false, out));
+    refused(3, 5, |out| cross([20, 1, 1, 1], 1, false, false, out));
+    refused(4, 5, |out| cross(UNREDUCED, 1, true, true, out));
+    refused(10, 5, |out| cross(UNREDUCED, 16, true, true, out));
+    answers(&[4, 3, 1, 0, 2], |out| cross([0, 3, 0, 0], 0, false, false, out));
+}
+
+#[test]
+fn settle_refuses_2_3_4_10() {
+    let asked: [(u32, usize, Four, u32); 4] = [(2, 4, FACE, 0), (3, 5, [20, 1, 1, 1], 1), (4, 5, UNREDUCED, 1), (10, 5, UNREDUCED, 0)];
+    for (number, lent, place, level) in asked {
+        let mut out = vec![99; lent];
+        assert_eq!(settle(place, level, false, &mut out), number);
+        assert!(out.iter().all(|&n| n == 99));
+    }
+    let mut out = [99; 7];
+    assert_eq!(settle([0, 3, 0, 0], 0, false, &mut out), 0);
+    assert_eq!(out, [2, 1, 0, 0, 3, 99, 99]);
+}
+
+#[test]
+fn same_corner_refuses_2_3_10() {
+    refused(2, 0, |out| same_corner(FACE, GOOD, out));
+    refused(3, 1, |out| same_corner(FACE, UNREDUCED, out));
+    refused(3, 1, |out| same_corner(UNREDUCED, FACE, out));
+    refused(10, 1, |out| same_corner(UNREDUCED, GOOD, out));
+    refused(10, 1, |out| same_corner(GOOD, UNREDUCED, out));
+    answers(&[1], |out| same_corner(GOOD, GOOD, out));
+    answers(&[0], |out| same_corner(GOOD, [1, 1, 0, 0], out));
+}
+
+fn nearest_keeps(number: u32, frame: &[f64], vector: [f64; 3], faces: usize, distances: usize) {
+    let (mut face, mut distance) = (vec![OLD; faces], vec![OLD_DOUBLE; distances]);
+    assert_eq!(nearest(frame, vector, &mut face, &mut distance), number);
+    assert!(face.iter().all(|&n| n == OLD) && distance.iter().all(|&n| n == OLD_DOUBLE));
+}
+
+#[test]
+fn nearest_refuses_1_2_6_7() {
+    let frame = default_frame();
+    nearest_keeps(1, &frame[..179], NAN3, 0, 0);
+    nearest_keeps(1, &[0.0; 180], NAN3, 1, 1);
+    nearest_keeps(2, &frame, NAN3, 0, 1);
+    nearest_keeps(2, &frame, NAN3, 1, 0);
+    nearest_keeps(6, &frame, NAN3, 1, 1);
+    nearest_keeps(6, &frame, [f64::INFINITY, 0.0, 0.0], 1, 1);
+    nearest_keeps(7, &frame, LONG, 1, 1);
+    nearest_keeps(7, &frame, [0.0; 3], 1, 1);
+    let (mut face, mut distance) = ([OLD; 2], [OLD_DOUBLE; 2]);
+    let centre = [frame[63], frame[64], frame[65]];
+    assert_eq!(nearest(&frame, centre, &mut face, &mut distance), 0);
+    assert_eq!((face, distance), ([7, OLD], [0.0, OLD_DOUBLE]));
+}
+
+/// Frames that are refused: length, a number, a part of u, a centre.
+fn bad_frames() -> Vec<Vec<f64>> {
+    let frame = default_frame();
+    let with = |n: usize, number: f64| {
+        let mut bad = frame.to_vec();
+        bad[n] = number;
+        bad
+    };
+    let longer = [&frame[..], &[0.0]].concat();
+    vec![vec![], frame[..179].to_vec(), longer, with(179, f64::NAN), with(3, 3.5), with(171, 2.0), vec![0.0; 180]]
+}
+
+#[test]
+fn place_refuses_1_2_4_6_7_8() {
+    let frame = default_frame();
+    for bad in bad_frames() {
+        refused(1, 4, |out| place(&bad, NAN3, 16, out));
+        refused(1, 3, |out| place(&bad, NAN3, 16, out));
+    }
+    refused(2, 3, |out| place(&frame, NAN3, 16, out));
+    refused(4, 4, |out| place(&frame, NAN3, 16, out));
+    refused(6, 4, |out| place(&frame, NAN3, 15, out));
+    refused(7, 4, |out| place(&frame, LONG, 15, out));
+    refused(8, 4, |out| place(&one_sided_frame(), [0.0, 0.0, -1.0], 15, out));
+    answers(&[0, 0, 0, 0], |out| place(&one_sided_frame(), [0.0, 0.0, 1.0], 15, out));
+}
+
+fn batch_keeps(number: u32, frame: &[f64], level: u32, input: &[f64], (lent, first, counts): (usize, usize, usize)) {
+    let (mut out, mut refused) = (vec![7; lent], vec![55; counts]);
+    assert_eq!(batch(frame, level, input, &mut out, first, &mut refused), number);
+    assert!(out.iter().all(|&n| n == 7) && refused.iter().all(|&n| n == 55));
+}
+
+#[test]
+fn batch_refuses_1_2_4() {
+    let frame = default_frame();
+    for bad in bad_frames() {
+        batch_keeps(1, &bad, 16, &X, (4, 0, 1));
+        batch_keeps(1, &bad, 16, &X[..2], (3, 9, 0));
+    }
+    // No room for the count; an input of 2; an output of 7; a row too few; a first row beyond all rows, also where 4 times it overflows.
+    batch_keeps(2, &frame, 16, &X, (4, 0, 0));
+    batch_keeps(2, &frame, 16, &X[..2], (4, 0, 1));
+    batch_keeps(2, &frame, 16, &X, (7, 0, 1));
+    batch_keeps(2, &frame, 16, &X, (4, 1, 1));
+    batch_keeps(2, &frame, 16, &X, (4, 2, 1));
+    batch_keeps(2, &frame, 16, &X, (4, usize::MAX, 1));
+    batch_keeps(2, &frame, 16, &X, (4, 1 << 62, 1));
+    batch_keeps(2, &frame, 16, &[], (4, 2, 1));
+    batch_keeps(4, &frame, 16, &X, (4, 0, 1));
+}
+
+#[test]
+fn batch_writes_its_rows_alone() {
+    let frame = default_frame();
+    let input = [X, NAN3, LONG, X].concat();
+    let (mut out, mut refused) = (vec![7; 24], [55; 2]);
+    assert_eq!(batch(&frame, 9, &input, &mut out, 1, &mut refused), 0);
+    let mut alone = [0; 4];
+    assert_eq!(place(&frame, X, 9, &mut alone), 0);
+    let good = alone.map(|n| n as i32);
+    assert_eq!(out, [[7; 4], good, [-6, 0, 0, 0], [-7, 0, 0, 0], good, [7; 4]].concat());
+    assert_eq!(refused, [2, 55]);
+}
+
+#[test]
+fn batch_of_none_writes_its_count() {
+    for lent in [0, 4] {
+        let (mut out, mut refused) = (vec![7; lent], [55]);
+        assert_eq!(batch(&default_frame(), 9, &[], &mut out, lent / 4, &mut refused), 0);
+        assert_eq!((out, refused), (vec![7; lent], [0]));
+    }
+}
+
+#[test]
+fn batch_row_behind_is_minus_8() {
+    let (mut out, mut refused) = ([7; 4], [55]);
+    assert_eq!(batch(&one_sided_frame(), 9, &[0.0, 0.0, -1.0], &mut out, 0, &mut refused), 0);
+    assert_eq!((out, refused), ([-8, 0, 0, 0], [1]));
+}
+
+#[test]
+fn corners_refuse_2_3_4_10() {
+    refused(2, 18, |out| corners(FACE, 16, out));
+    refused(3, 19, |out| corners([20, 1, 1, 1], 16, out));
+    refused(4, 19, |out| corners(UNREDUCED, 16, out));
+    refused(10, 19, |out| corners(UNREDUCED, 15, out));
+    answers(&[0, 5, 1, 0, 4, 2, 0, 2, 1, 0, 2, 0, 1, 4, 0, 2, 5, 0, 1], |out| corners(GOOD, 0, out));
+}
+
+type Border = fn(Four, u32, u32, u32, &mut [u32], &mut [f64]) -> u32;
+
+fn border_keeps(border: Border, number: u32, centre: Four, level: u32, (start, length): (u32, u32), (marked, pointed): (usize, usize)) {
+    let (mut marks, mut points) = (vec![OLD; marked], vec![OLD_DOUBLE; pointed]);
+    assert_eq!(border(centre, level, start, length, &mut marks, &mut points), number);
+    assert!(marks.iter().all(|&n| n == OLD) && points.iter().all(|&n| n == OLD_DOUBLE));
+}
+
+#[test]
+fn borders_refuse_2_3_4_5_10_11() {
+    for (border, sides) in [(hexagon as Border, 6), (pentagon as Border, 5)] {
+        border_keeps(border, 2, FACE, 16, (0, 0), (24, 24));
+        border_keeps(border, 2, FACE, 16, (0, 0), (25, 23));
+        border_keeps(border, 3, [20, 1, 1, 1], 16, (0, 0), (25, 24));
+        border_keeps(border, 4, UNREDUCED, 16, (sides, 0), (25, 24));
+        border_keeps(border, 5, UNREDUCED, 15, (sides, 0), (25, 24));
+        border_keeps(border, 5, UNREDUCED, 15, (0, sides + 1), (25, 24));
+        border_keeps(border, 10, UNREDUCED, 15, (0, sides), (25, 24));
+        border_keeps(border, 11, [0, 3, 0, 0], 0, (0, sides), (25, 24));
+    }
+}
+
+#[test]
+fn pentagon_refuses_12() {
+    border_keeps(pentagon, 12, [0, 0, 0, 0], 1, (0, 2), (25, 24));
+}
+
+#[test]
+fn borders_write_no_more_than_their_length() {
+    for border in [hexagon as Border, pentagon as Border] {
+        let (mut marks, mut points) = (vec![OLD; 27], vec![OLD_DOUBLE; 26]);
+        assert_eq!(border(GOOD, 0, 0, 2, &mut marks, &mut points), 0);
+        assert_eq!(marks[..6], [2, 0, 1, 0, 1, 0]);
+        assert!(marks[5..25].iter().all(|&n| n == 0) && points[4..24].iter().all(|&n| n == 0.0));
+        assert_eq!((&marks[25..], &points[24..]), (&[OLD; 2][..], &[OLD_DOUBLE; 2][..]));
+    }
+}
+
+#[test]
+fn empty_border_has_no_points() {
+    let (mut marks, mut points) = ([OLD; 25], [OLD_DOUBLE; 24]);
+    assert_eq!(hexagon(GOOD, 0, 5, 0, &mut marks, &mut points), 0);
+    assert_eq!((marks, points), ([0; 25], [0.0; 24]));
+}

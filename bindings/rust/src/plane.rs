@@ -1,0 +1,69 @@
+//! Points and hexagons on the plane of a face.
+use crate::answered::answered;
+use crate::{Refusal, ffi};
+
+/// Coordinates of a hexagon on its face. Reduced means that the least is 0.
+#[derive(Clone, Copy, Debug, Default, PartialEq, Eq, Hash)]
+pub struct CoordIJK {
+    /// Along the i-axis.
+    pub i: u32,
+    /// Along the j-axis.
+    pub j: u32,
+    /// Along the k-axis.
+    pub k: u32,
+}
+
+impl CoordIJK {
+    /// The coordinates i, j, k.
+    pub const fn new(i: u32, j: u32, k: u32) -> CoordIJK {
+        CoordIJK { i, j, k }
+    }
+
+    /// The centre of the hexagon. Refusals: 10.
+    pub fn centre(self) -> Result<Vec2d, Refusal> {
+        let mut out = [0.0; 2];
+        answered(ffi::centre([self.i, self.j, self.k], &mut out))?;
+        Ok(Vec2d::new(out[0], out[1]))
+    }
+}
+
+/// The hexagon of a plane point. Refusals: 6, 9.
+impl TryFrom<Vec2d> for CoordIJK {
+    type Error = Refusal;
+
+    fn try_from(point: Vec2d) -> Result<CoordIJK, Refusal> {
+        point.to_ijk()
+    }
+}
+
+/// A point on the plane of a face.
+#[derive(Clone, Copy, Debug, Default, PartialEq)]
+pub struct Vec2d {
+    /// Along the i-axis.
+    pub x: f64,
+    /// A quarter turn counterclockwise from it.
+    pub y: f64,
+}
+
+impl Vec2d {
+    /// The point x, y.
+    pub const fn new(x: f64, y: f64) -> Vec2d {
+        Vec2d { x, y }
+    }
+
+    /// The hexagon of the point. Refusals: 6, 9.
+    pub fn to_ijk(self) -> Result<CoordIJK, Refusal> {
+        let mut out = [0; 3];
+        answered(ffi::round(self.x, self.y, &mut out))?;
+        Ok(CoordIJK::new(out[0], out[1], out[2]))
+    }
+
+    /// Where two lines meet, which may lie beyond their ends. Refusals: 6, 13.
+    pub fn intersection(line1: (Vec2d, Vec2d), line2: (Vec2d, Vec2d)) -> Result<Vec2d, Refusal> {
+        let (a, b) = line1;
+        let (c, d) = line2;
+        let mut out = [0.0; 2];
+        answered(ffi::meet(&[a.x, a.y, b.x, b.y, c.x, c.y, d.x, d.y], &mut out))?;
+        Ok(Vec2d::new(out[0], out[1]))
+    }
+}

@@ -1,0 +1,95 @@
+//! Why a question was refused.
+use std::error::Error;
+use std::fmt;
+
+/// Why a question was refused; its number is that of document 01. Of several that apply the library gives the smallest.
+#[derive(Clone, Copy, Debug, PartialEq, Eq, PartialOrd, Ord, Hash)]
+#[repr(u32)]
+pub enum Refusal {
+    /// The frame is not 180 finite doubles of twenty unit centres and their axes.
+    BadFrame = 1,
+    /// A slice has the wrong length, or the rows do not fit.
+    BadRows = 2,
+    /// A face above 19.
+    BadFace = 3,
+    /// A cell level above 15; a grid level that is odd or above 16.
+    BadLevel = 4,
+    /// An edge that is none of the three, or a start or length of a border out of range.
+    BadRange = 5,
+    /// A NaN or an infinity.
+    BadNumber = 6,
+    /// The vector's length is not 1.
+    OffSphere = 7,
+    /// The vector lies behind the face's plane.
+    Behind = 8,
+    /// A plane point with a part of 2^25 or more.
+    TooFar = 9,
+    /// No coordinate is 0, or one is above 2^26.
+    NotReduced = 10,
+    /// A border's centre lies outside its face.
+    OutOfFace = 11,
+    /// A border runs over faces that are no neighbours.
+    NotAdjacent = 12,
+    /// Two lines do not meet.
+    NoCrossing = 13,
+    /// The input of `walk` is malformed. No function of this crate gives it.
+    BadLine = 14,
+}
+
+impl Refusal {
+    /// All fourteen, in the order of their numbers.
+    pub const ALL: [Refusal; 14] = [
+        Refusal::BadFrame,
+        Refusal::BadRows,
+        Refusal::BadFace,
+        Refusal::BadLevel,
+        Refusal::BadRange,
+        Refusal::BadNumber,
+        Refusal::OffSphere,
+        Refusal::Behind,
+        Refusal::TooFar,
+        Refusal::NotReduced,
+        Refusal::OutOfFace,
+        Refusal::NotAdjacent,
+        Refusal::NoCrossing,
+        Refusal::BadLine,
+    ];
+
+    /// Its number, 1..14.
+    pub const fn number(self) -> u32 {
+        self as u32
+    }
+
+    /// The refusal of a number; none if it is not 1..14.
+    pub fn from_number(number: u32) -> Option<Refusal> {
+        Refusal::ALL.into_iter().find(|refusal| refusal.number() == number)
+    }
+
+    /// What to do about it.
+    pub const fn advice(self) -> &'static str {
+        match self {
+            Refusal::BadFrame => "load the frame again",
+            Refusal::BadRows => "lend slices of the lengths stated",
+            Refusal::BadFace => "pass a face 0..19",
+            Refusal::BadLevel => "pass a cell level 0..15 or an even grid level 0..16",
+            Refusal::BadRange => "pass an edge IJ, KI or JK, and a start and length that the cell has",
+            Refusal::BadNumber => "the receiver has no fix, keep its feed",
+            Refusal::OffSphere => "divide the vector by its length first",
+            Refusal::Behind => "the frame is no icosahedron, load the frame again",
+            Refusal::TooFar => "the point lies on no face, check where it comes from",
+            Refusal::NotReduced => "subtract the least coordinate from all three first",
+            Refusal::OutOfFace => "cross or settle the centre first",
+            Refusal::NotAdjacent => "the centre is no pentagon's, ask for a hexagon's border",
+            Refusal::NoCrossing => "check the ends of the lines, which are parallel or too large",
+            Refusal::BadLine => "write one line: face, level, p or s, i, j, k",
+        }
+    }
+}
+
+impl fmt::Display for Refusal {
+    fn fmt(&self, f: &mut fmt::Formatter<'_>) -> fmt::Result {
+        write!(f, "refused {} {self:?}: {}", self.number(), self.advice())
+    }
+}
+
+impl Error for Refusal {}

@@ -1,0 +1,34 @@
+-- `Vec2d::rounded` meets its contract: the verdict decides, and a point that passes is near enough. Assumes nothing.
+use borrow.Author.Needs.{needs}
+use mathlib.Core.Path.{_∙_, sym, ap}
+use Rattle.reply.specs.Replies.{answer}
+use Rattle.reply.proofs.Entries.{answers, refuses}
+use Rattle.coordijk.specs.declared.CoordIJK.{CoordIJK}
+use Rattle.coordijk.specs.Coordinates.{coordValues}
+use Rattle.vec2d.specs.Rounding.{roundVerdict, nearestOf}
+use Rattle.vec2d.proofs.Accepted.{accepted}
+use Rattle.vec2d.proofs.Vec2d.rounded.Statement.{statement}
+use Rattle.vec2d.proofs.Vec2d.rounded.Tie as tie
+
+nearest-requires : tie.Need-nearest-requires
+nearest-requires c κs = accepted _ (sym (c .before .before .verdict .ensures) ∙ c .enum-told .given .1)
+
+returns : tie.Need-returns
+returns c =
+    let n = c .before .before .before .before in
+    let p = n .new .result in
+    rw (n .new .ensures) at
+    (answers 3 (roundVerdict p) (coordValues (nearestOf p)) _ (sym (c .before .before .before .verdict .ensures) ∙ c .before .enum-told .given .1)
+    (ap (λ (r : CoordIJK). answer (coordValues r)) (c .nearest .ensures)))
+
+returns-2 : tie.Need-returns-2
+returns-2 c =
+    let n = c .before .before .before .before in
+    let p = n .new .result in
+    rw (n .new .ensures) at
+    (refuses 3 (roundVerdict p) (coordValues (nearestOf p)) _ (sym (c .before .before .before .verdict .ensures) ∙ c .before .verdict2 .given .1))
+
+pub rounded-spec : {M : Type 1} → statement M
+rounded-spec =
+    tie.close
+    (tie.spec (λ c κs. search needs) (λ c κs. search needs) (λ c. search needs) nearest-requires (λ c. search needs) returns returns-2)

@@ -1,0 +1,221 @@
+/*
+ * Heddleplume: which hexagon of which face of the icosahedron a place on Earth lies in, and the border of that hexagon.
+ * C99, usable from C++. Link with target/staticlib/libheddleplume.a (x86-64), which `rt staticlib heddleplume` writes;
+ * it needs no library but C's own.
+ *
+ * What holds for every function here:
+ *
+ * - It returns 0 if it answered, otherwise the number of its refusal, one of enum heddleplume_refusal. Of several that apply the
+ *   smallest is given.
+ * - The answer goes into the memory lent for it, each piece of which comes with its length in elements. It may be longer than stated
+ *   here; what lies past the answer stays as it was. Shorter gets 2, HEDDLEPLUME_BAD_ROWS.
+ * - A refusal writes nothing. The memory then still holds what it held before, perhaps an old answer: so read the number first, and
+ *   the memory only if the number is 0.
+ * - Any number may be passed. One below zero arrives as a large one and is refused: i = -1 gets 10.
+ * - A pointer is never NULL, not even with length 0, has the alignment of its elements, and leads to as many of them as the length
+ *   says. Memory that is written overlaps no other memory of the same call.
+ * - Nothing is kept between calls and nothing is allocated; calls from several threads do not disturb each other as long as none
+ *   writes memory that another uses.
+ *
+ * A place is a face 0..19 and coordinates i, j, k. The least of the three is 0 and none is above 2^26, in what is passed (otherwise 10)
+ * and in what is answered; only the answers of heddleplume_step, of heddleplume_cross with the turn, and of heddleplume_corners may be
+ * above 2^26, and other functions then refuse them with 10.
+ * A cell level is 0..15. A grid level is even, 0..16: an odd cell level is raised by one.
+ */
+#ifndef HEDDLEPLUME_H
+#define HEDDLEPLUME_H
+
+#include <stddef.h>
+#include <stdint.h>
+#ifndef __cplusplus
+#include <stdbool.h>
+#endif
+
+#ifdef __cplusplus
+extern "C" {
+#endif
+
+/* Why a question was refused. The constants are int, so -HEDDLEPLUME_BAD_NUMBER is what a batch row holds. */
+enum heddleplume_refusal {
+    HEDDLEPLUME_NO_REFUSAL = 0,    /* answered */
+    HEDDLEPLUME_BAD_FRAME = 1,     /* not 180 finite doubles of twenty unit centres and their axes: load the frame again */
+    HEDDLEPLUME_BAD_ROWS = 2,      /* a wrong length, or the rows do not fit: lend the lengths stated */
+    HEDDLEPLUME_BAD_FACE = 3,      /* a face above 19 */
+    HEDDLEPLUME_BAD_LEVEL = 4,     /* a cell level above 15; a grid level that is odd or above 16 */
+    HEDDLEPLUME_BAD_RANGE = 5,     /* an edge not 1..3, or a start or length of a border out of range */
+    HEDDLEPLUME_BAD_NUMBER = 6,    /* a NaN or an infinity: the receiver has no fix, do not switch its feed */
+    HEDDLEPLUME_OFF_SPHERE = 7,    /* the vector's length is not 1: divide the vector by its length first */
+    HEDDLEPLUME_BEHIND = 8,        /* the vector lies behind the face's plane: the frame is no icosahedron */
+    HEDDLEPLUME_TOO_FAR = 9,       /* a plane point with a part of 2^25 or more: the point lies on no face */
+    HEDDLEPLUME_NOT_REDUCED = 10,  /* no coordinate is 0, or one is above 2^26: subtract the least from all three */
+    HEDDLEPLUME_OUT_OF_FACE = 11,  /* a border's centre lies outside its face: cross or settle it first */
+    HEDDLEPLUME_NOT_ADJACENT = 12, /* a border runs over faces that are no neighbours: the centre is no pentagon's */
+    HEDDLEPLUME_NO_CROSSING = 13,  /* two lines do not meet */
+    HEDDLEPLUME_BAD_LINE = 14      /* a malformed line of text; no function of this header gives it */
+};
+
+/* Lengths in elements. */
+enum heddleplume_length {
+    HEDDLEPLUME_FRAME_LEN = 180,  /* doubles: centre, u, v of each of the twenty faces */
+    HEDDLEPLUME_VECTOR_LEN = 3,   /* doubles: x y z */
+    HEDDLEPLUME_ROW_LEN = 4,      /* numbers: face i j k */
+    HEDDLEPLUME_LINES_LEN = 8,    /* doubles: x y of from and to, of the first line and then of the second */
+    HEDDLEPLUME_POINT_LEN = 2,    /* doubles: x y */
+    HEDDLEPLUME_COORD_LEN = 3,    /* numbers: i j k */
+    HEDDLEPLUME_PLACE_LEN = 4,    /* numbers: face i j k */
+    HEDDLEPLUME_CROSS_LEN = 5,    /* numbers: face i j k, and an enum heddleplume_overage */
+    HEDDLEPLUME_SETTLE_LEN = 5,   /* numbers: face i j k, and the number of steps */
+    HEDDLEPLUME_CORNERS_LEN = 19, /* numbers: the grid level, then i j k six times */
+    HEDDLEPLUME_MARKS_LEN = 25,   /* numbers: the count, then face and mark twelve times */
+    HEDDLEPLUME_POINTS_LEN = 24   /* doubles: x y twelve times */
+};
+
+/* How a crossing ended. */
+enum heddleplume_overage {
+    HEDDLEPLUME_OVERAGE_NONE = 0,      /* still on the face, unchanged */
+    HEDDLEPLUME_OVERAGE_FACE_EDGE = 1, /* on an edge; only on a substrate grid */
+    HEDDLEPLUME_OVERAGE_NEW_FACE = 2   /* on a neighbour face */
+};
+
+/* Where another face lies; 1, 2, 3 are also the edges that heddleplume_step takes. */
+enum heddleplume_direction {
+    HEDDLEPLUME_DIRECTION_ITSELF = 0,
+    HEDDLEPLUME_DIRECTION_IJ = 1,
+    HEDDLEPLUME_DIRECTION_KI = 2,
+    HEDDLEPLUME_DIRECTION_JK = 3,
+    HEDDLEPLUME_DIRECTION_ELSEWHERE = 7
+};
+
+/* What a point of a boundary is. */
+enum heddleplume_mark {
+    HEDDLEPLUME_MARK_UNUSED = 0,
+    HEDDLEPLUME_MARK_CORNER = 1,
+    HEDDLEPLUME_MARK_CROSSING = 2
+};
+
+/* ---- From a unit vector to a place ---- */
+
+/*
+ * The default frame: an icosahedron in the orientation of the public H3 library.
+ * Writes out[0..179]. Refusals: 2.
+ */
+uint32_t heddleplume_frame(double *out, size_t out_len);
+
+/*
+ * The face nearest to a unit vector, and the squared distance from its centre; of several equally near the lowest face.
+ * Writes face[0] and distance[0]. Refusals: 1, 2, 6, 7.
+ */
+uint32_t heddleplume_nearest(const double *frame, size_t frame_len, double x, double y, double z, uint32_t *face, size_t face_len,
+                             double *distance, size_t distance_len);
+
+/*
+ * The place of a unit vector at a cell level.
+ * Writes out[0..3]: face i j k. Refusals: 1, 2, 4, 6, 7, 8.
+ */
+uint32_t heddleplume_place(const double *frame, size_t frame_len, double x, double y, double z, uint32_t level, uint32_t *out,
+                           size_t out_len);
+
+/*
+ * The places of n unit vectors, x y z one after the other, input_len = 3n, into rows of four numbers.
+ * Writes row first + k for vector k, that is out[4 * (first + k)] and the three after it: face i j k; or, if the vector is refused,
+ * minus the refusal (6, 7 or 8), 0, 0, 0, never what the row held before. All other rows stay. refused[0] is the number of refused rows.
+ * Refusals of the whole batch, which write no row: 1, 2, 4. Besides for a short `refused` 2 is given if input_len is no multiple of 3,
+ * out_len none of 4, or the rows from `first` on are fewer than n. With n = 0 only refused[0] is written.
+ */
+uint32_t heddleplume_batch(const double *frame, size_t frame_len, uint32_t level, const double *input, size_t input_len, int32_t *out,
+                           size_t out_len, size_t first, uint64_t *refused, size_t refused_len);
+
+/* ---- On the plane of a face ---- */
+
+/*
+ * The hexagon of a plane point.
+ * Writes out[0..2]: i j k. Refusals: 2, 6, 9.
+ */
+uint32_t heddleplume_round(double x, double y, uint32_t *out, size_t out_len);
+
+/*
+ * The centre of a hexagon.
+ * Writes out[0..1]: x y. Refusals: 2, 10.
+ */
+uint32_t heddleplume_centre(uint32_t i, uint32_t j, uint32_t k, double *out, size_t out_len);
+
+/*
+ * Where two lines meet, which may lie beyond their ends. The lines are eight doubles: x y of from and to of the first, then of the second.
+ * Writes out[0..1]: x y. Refusals: 2 (also if lines_len is not 8, longer too), 6, 13.
+ */
+uint32_t heddleplume_meet(const double *lines, size_t lines_len, double *out, size_t out_len);
+
+/* ---- From face to face ---- */
+
+/*
+ * Where the face `to` lies, seen from the face `from`.
+ * Writes out[0]: an enum heddleplume_direction. Refusals: 2, 3.
+ */
+uint32_t heddleplume_direction(uint32_t from, uint32_t to, uint32_t *out, size_t out_len);
+
+/*
+ * A place after a sixth of a turn about its face's centre.
+ * Writes out[0..3]: face i j k. Refusals: 2, 3, 10.
+ */
+uint32_t heddleplume_turn(uint32_t face, uint32_t i, uint32_t j, uint32_t k, bool clockwise, uint32_t *out, size_t out_len);
+
+/*
+ * The same place named from the neighbour face over an edge: 1 IJ, 2 KI, 3 JK. `level` is a grid level.
+ * Writes out[0..3]: face i j k. Refusals: 2, 3, 4, 5, 10.
+ */
+uint32_t heddleplume_step(uint32_t face, uint32_t i, uint32_t j, uint32_t k, uint32_t level, bool substrate, uint32_t edge, uint32_t *out,
+                          size_t out_len);
+
+/*
+ * One crossing: a place beyond its face is named from the neighbour that it lies towards. `level` is a grid level; `turn` asks for the
+ * pentagon's turn before a step over KI.
+ * Writes out[0..4]: face i j k and an enum heddleplume_overage. Refusals: 2, 3, 4, 10.
+ */
+uint32_t heddleplume_cross(uint32_t face, uint32_t i, uint32_t j, uint32_t k, uint32_t level, bool substrate, bool turn, uint32_t *out,
+                           size_t out_len);
+
+/*
+ * Crossings, without the turn, until the place lies on its face. `level` is a grid level.
+ * From coordinates near 2^26 at level 0 this makes millions of steps, about half a second.
+ * Writes out[0..4]: face i j k and the number of steps over an edge. Refusals: 2, 3, 4, 10.
+ */
+uint32_t heddleplume_settle(uint32_t face, uint32_t i, uint32_t j, uint32_t k, uint32_t level, bool substrate, uint64_t *out,
+                            size_t out_len);
+
+/*
+ * Whether two corners are one: the same face and the same coordinates.
+ * Writes out[0]: 1 yes, 0 no. Refusals: 2, 3, 10, the last two of either corner.
+ */
+uint32_t heddleplume_same_corner(uint32_t face, uint32_t i, uint32_t j, uint32_t k, uint32_t other_face, uint32_t other_i,
+                                 uint32_t other_j, uint32_t other_k, uint32_t *out, size_t out_len);
+
+/* ---- Corners and borders ---- */
+
+/*
+ * The corners of a cell on its substrate grid; a pentagon takes the first five. `level` is a cell level.
+ * Writes out[0..18]: the grid level, then i j k six times. Refusals: 2, 3, 4, 10.
+ */
+uint32_t heddleplume_corners(uint32_t face, uint32_t i, uint32_t j, uint32_t k, uint32_t level, uint32_t *out, size_t out_len);
+
+/*
+ * The border of a hexagon: `length` corners (0..6) from corner `start` (0..5) on, and the points between them where the border crosses
+ * an edge of the icosahedron. `level` is a cell level.
+ * Writes marks[0..24]: the count, then face and mark (enum heddleplume_mark) twelve times; points[0..23]: x y twelve times, on the plane
+ * of the face that the marks name. Points from the count on are unused: all zeros. Length 0 gives an empty border.
+ * Refusals: 2, 3, 4, 5, 10, 11, 13.
+ */
+uint32_t heddleplume_hexagon(uint32_t face, uint32_t i, uint32_t j, uint32_t k, uint32_t level, uint32_t start, uint32_t length,
+                             uint32_t *marks, size_t marks_len, double *points, size_t points_len);
+
+/*
+ * The border of a pentagon, in the same form: `start` is 0..4, `length` 0..5.
+ * Refusals: 2, 3, 4, 5, 10, 11, then 12 or 13, that of the first crossing point needed.
+ */
+uint32_t heddleplume_pentagon(uint32_t face, uint32_t i, uint32_t j, uint32_t k, uint32_t level, uint32_t start, uint32_t length,
+                              uint32_t *marks, size_t marks_len, double *points, size_t points_len);
+
+#ifdef __cplusplus
+}
+#endif
+
+#endif

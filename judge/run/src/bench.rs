@@ -1,0 +1,200 @@
+//! Times both sides in one process on the same inputs: nanoseconds for an answer, best and median of the passes.
+use crate::{borders, chance::Chance, ours::{At, Outline, Vector, bare}, places, vectors};
+use h3o::coord::{CoordIJK, FaceIJK, Vec2d, Vec3d};
+use h3o::face::FRAME;
+use h3o::{Boundary, ExtendedResolution, Resolution, Vertex, plane};
+use std::hint::black_box;
+use std::time::Instant;
+
+const PASSES: usize = 11;
+const MANY: usize = 1_000_000;
+
+/// What a question cost, in nanoseconds an answer, pass by pass.
+struct Cost(Vec<f64>);
+
+impl Cost {
+    fn best(&self) -> f64 {
+        self.0.iter().copied().fold(f64::INFINITY, f64::min)
+    }
+    fn median(&self) -> f64 {
+        let mut all = self.0.clone();
+        all.sort_by(f64::total_cmp);
+        all[all.len() / 2]
+    }
+}
+
+fn once(answers: usize, work: &mut impl FnMut()) -> f64 {
+    let begun = Instant::now();
+    work();
+    begun.elapsed().as_nanos() as f64 / answers as f64
+}
+
+/// One row of the table: the two sides take turns, so that both meet the same machine.
+fn row(name: &str, answers: usize, mut ours: impl FnMut(), mut theirs: impl FnMut()) {
+    let (mut a, mut b) = (Cost(vec![]), Cost(vec![]));
+    for _ in 0..PASSES {
+        a.0.push(once(answers, &mut ours));
+        b.0.push(once(answers, &mut theirs));
+    }
+    println!(
+        "| {name} | {:.1} ({:.1}) | {:.1} ({:.1}) | {:.2} | {:.2} |",
+        a.best(), a.median(), b.best(), b.median(), a.best() / b.best(), a.median() / b.median()
+    );
+}
+
+fn uniform(n: usize) -> Vec<Vector> {
+    let mut chance = Chance(9);
+    std::iter::repeat_with(|| vectors::uniform(&mut chance)).take(n).collect()
+}
+
+fn vec3d([x, y, z]: Vector) -> Vec3d {
+    Vec3d::new(x, y, z)
+}
+
+fn place() {
+    let input = uniform(MANY);
+    let (mut rows, mut refused, mut theirs) = (vec![0i32; 4 * MANY], [0u64], vec![FaceIJK::default(); MANY]);
+    row(
+        "place: a batch of a million uniform vectors, level 9", MANY,
+        || {
+            let number = bare::batch(&FRAME, 9, input.as_flattened(), &mut rows, 0, &mut refused);
+            assert_eq!((number, refused[0]), (0, 0));
+            black_box(&rows);
+        },
+        || {
+            for (p, v) in theirs.iter_mut().zip(&input) {
+                *p = FaceIJK::from_vec3d(vec3d(*v), Resolution(9));
+            }
+            black_box(&theirs);
+        },
+    );
+}
+
+fn round() {
+    let mut chance = Chance(10);
+    let points: Vec<(f64, f64)> = (0..MANY).map(|_| (chance.unit() * 20000., chance.unit() * 20000.)).collect();
+    row(
+        "rounding", MANY,
+        || {
+            for &p in &points {
+                let mut out = [0u32; 3];
+                black_box(bare::round(p, &mut out));
+                black_box(out);
+            }
+        },
+        || {
+            for &(x, y) in &points {
+                black_box(CoordIJK::from(Vec2d::new(x, y)));
+            }
+        },
+    );
+}
+
+fn nearest() {
+    let input = uniform(MANY);
+    row(
+        "nearest face, one vector", MANY,
+        || {
+            for &v in &input {
+                let (mut face, mut distance) = ([0u32], [0f64]);
+                black_box(bare::nearest(&FRAME, v, &mut face, &mut distance));
+                black_box((face, distance));
+            }
+        },
+        || {
+            for &v in &input {
+                black_box(vec3d(v).closest_face());
+            }
+        },
+    );
+}
+
+/// Places with two coordinates up to 2^20, on all faces.
+fn far_places(n: usize) -> Vec<At> {
+    let mut chance = Chance(11);
+    (0..n)
+        .map(|at| {
+            let (a, b) = (chance.below(1 << 20) as u32, chance.below(1 << 20) as u32);
+            let face = (at % 20) as u32;
+            [(face, a, b, 0), (face, 0, a, b), (face, b, 0, a)][at % 3]
+        })
+        .collect()
+}
+
+fn settle(name: &str, level: u32, n: usize) {
+    let places = far_places(n);
+    row(
+        name, n,
+        || {
+            for &at in &places {
+                let mut out = [0u64; 5];
+                black_box(bare::settle(at, level, true, &mut out));
+                black_box(out);
+            }
+        },
+        || {
+            for &at in &places {
+                let mut p = places::place(at);
+                p.adjust_pentagon_vertex_overage(ExtendedResolution(level as u8));
+                black_box(p);
+            }
+        },
+    );
+}
+
+/// The source's method for a whole boundary.
+type Walked = fn(&plane::FaceIJK, Resolution, Vertex, u8) -> Boundary;
+
+fn boundary(name: &str, cells: &[At], level: u32, sides: u32, (ours, theirs): (Outline, Walked)) {
+    let on_plane: Vec<plane::FaceIJK> = cells.iter().map(|&at| borders::on_plane(at)).collect();
+    row(
+        name, cells.len(),
+        || {
+            for &at in cells {
+                let (mut marks, mut points) = ([0u32; 25], [0f64; 24]);
+                assert_eq!(ours(at, level, (0, sides), &mut marks, &mut points), 0);
+                black_box((&marks, &points));
+            }
+        },
+        || {
+            for p in &on_plane {
+                black_box(theirs(p, Resolution(black_box(level as u8)), Vertex(black_box(0)), black_box(sides as u8)));
+            }
+        },
+    );
+}
+
+fn hexagons(name: &str, level: u32) {
+    let cell = |v: Vector| {
+        let p = FaceIJK::from_vec3d(vec3d(v), Resolution(level as u8));
+        (usize::from(p.face) as u32, p.coord.i() as u32, p.coord.j() as u32, p.coord.k() as u32)
+    };
+    // a cell over an edge of its face has no boundary there
+    let inside = |&at: &At| {
+        let (s, m) = borders::sum_and_limit(at, level);
+        s <= m
+    };
+    let cells: Vec<At> = uniform(MANY).into_iter().map(cell).filter(inside).collect();
+    boundary(name, &cells, level, 6, (bare::hexagon, plane::FaceIJK::hexagon_boundary));
+}
+
+/// At an odd level the source answers of a pentagon that is named by the corner on its face's i-axis, and of no other.
+fn pentagons() {
+    let centres: Vec<At> = (0..20).map(|face| borders::pentagon_centre(face, 0, 9)).collect();
+    let cells: Vec<At> = centres.into_iter().cycle().take(MANY).collect();
+    boundary("pentagon boundary, level 9", &cells, 9, 5, (bare::pentagon, plane::FaceIJK::pentagon_boundary));
+}
+
+/// Prints the table.
+pub fn run() {
+    println!("| question | ours, best (median) | Rust, best (median) | ratio of the best | of the medians |");
+    println!("|---|---|---|---|---|");
+    place();
+    round();
+    nearest();
+    settle("settling, level 10, coordinates to 2^20", 10, MANY);
+    settle("settling, level 0, coordinates to 2^20", 0, 300);
+    hexagons("hexagon boundary, level 8", 8);
+    hexagons("hexagon boundary, level 9", 9);
+    pentagons();
+}

@@ -1,0 +1,71 @@
+//! Lent slices that are too short for the values: each function refuses with 2 and writes nothing. The other inputs would be
+//! refused too, with a higher number, or with 1, the only one that is lower.
+use crate::{Tally, ours::{Outline, UNTOUCHED, Vector, bare}};
+use h3o::face::FRAME;
+
+/// No place: 3 and 10.
+const NOWHERE: (u32, u32, u32, u32) = (20, 1, 1, 1);
+const NOTHING: Vector = [f64::NAN; 3];
+
+fn untouched() -> f64 {
+    f64::from_bits(UNTOUCHED.into())
+}
+
+/// Calls with every length that is too short.
+fn short<T: Copy + PartialEq>(tally: &mut Tally, name: &str, values: usize, before: T, call: impl Fn(&mut [T]) -> u32) {
+    for len in 0..values {
+        let mut out = vec![before; len];
+        let number = call(&mut out);
+        tally.holds(number == 2 && out.iter().all(|&x| x == before), || format!("{name} into {len}: {number}"));
+    }
+}
+
+fn places(tally: &mut Tally) {
+    let (word, double) = (UNTOUCHED, untouched());
+    short(tally, "round", 3, word, |out| bare::round((f64::NAN, 0.), out));
+    short(tally, "centre", 2, double, |out| bare::centre((1, 1, 1), out));
+    short(tally, "meet", 2, double, |out| bare::meet(&[f64::NAN; 8], out));
+    short(tally, "direction", 1, word, |out| bare::direction(20, 20, out));
+    short(tally, "turn", 4, word, |out| bare::turn(NOWHERE, true, out));
+    short(tally, "step", 4, word, |out| bare::step(NOWHERE, 17, true, 0, out));
+    short(tally, "cross", 5, word, |out| bare::cross(NOWHERE, 17, true, true, out));
+    short(tally, "settle", 5, u64::from(word), |out| bare::settle(NOWHERE, 17, true, out));
+    short(tally, "same corner", 1, word, |out| bare::same_corner(NOWHERE, NOWHERE, out));
+    short(tally, "corners", 19, word, |out| bare::corners(NOWHERE, 16, out));
+    short(tally, "frame", 180, double, bare::frame);
+    short(tally, "place", 4, word, |out| bare::place(&FRAME, NOTHING, 16, out));
+}
+
+/// Two slices, of which one or both are too short; both must stay.
+fn outline(tally: &mut Tally, name: &str, call: Outline) {
+    for (m, p) in [(0, 24), (24, 24), (25, 23), (25, 0), (24, 23), (0, 0)] {
+        let (mut marks, mut points) = (vec![UNTOUCHED; m], vec![untouched(); p]);
+        let number = call(NOWHERE, 16, (9, 9), &mut marks, &mut points);
+        let stay = marks.iter().all(|&x| x == UNTOUCHED) && points.iter().all(|&x| x == untouched());
+        tally.holds(number == 2 && stay, || format!("{name} into {m} and {p}: {number}"));
+    }
+}
+
+/// A bad frame comes first.
+fn framed(tally: &mut Tally) {
+    for (frame, wanted) in [(&FRAME[..], 2), (&FRAME[1..], 1)] {
+        for (f, d) in [(0, 1), (1, 0), (0, 0)] {
+            let (mut face, mut distance) = (vec![UNTOUCHED; f], vec![untouched(); d]);
+            let number = bare::nearest(frame, NOTHING, &mut face, &mut distance);
+            let stay = face.iter().all(|&x| x == UNTOUCHED) && distance.iter().all(|&x| x == untouched());
+            tally.holds(number == wanted && stay, || format!("nearest into {f} and {d}: {number}"));
+        }
+        let mut rows = [7; 4];
+        let number = bare::batch(frame, 16, &NOTHING, &mut rows, 0, &mut []);
+        tally.holds(number == wanted && rows == [7; 4], || format!("batch without room for the count: {number}"));
+        let number = bare::place(frame, NOTHING, 16, &mut []);
+        tally.holds(number == wanted, || format!("place into nothing: {number}"));
+    }
+}
+
+pub fn run(tally: &mut Tally) {
+    places(tally);
+    outline(tally, "hexagon", bare::hexagon);
+    outline(tally, "pentagon", bare::pentagon);
+    framed(tally);
+}
