@@ -66,16 +66,9 @@ fn on_nearest(frame: &[f64], level: u32, p: Vec3d) -> Located
     }
 }
 
-// The place of any vector, with a frame and a level that have passed.
-fn place_of(frame: &[f64], level: u32, p: Vec3d) -> Located
-    requires { ⌜ Passed (now frame) level ⌝ }
-    ensures { λ r. ⌜ saidLocated r ≡ rowReply (now (frame .entry)) level p ⌝ }
-{
-    place_at(frame, level, p.x, p.y, p.z)
-}
-
-// The same of x, y, z apart, so that they come in registers: a vector read back from memory at once costs a tenth more.
-fn place_at(frame: &[f64], level: u32, x: f64, y: f64, z: f64) -> Located
+// The place of any vector, with a frame and a level that have passed. Its parts stand apart, so that they come in registers: a vector read back from
+// memory at once costs a tenth more.
+fn place_of(frame: &[f64], level: u32, x: f64, y: f64, z: f64) -> Located
     requires { ⌜ Passed (now frame) level ⌝ }
     ensures { λ r. ⌜ saidLocated r ≡ rowReply (now (frame .entry)) level (record { x = x; y = y; z = z }) ⌝ }
 {
@@ -98,7 +91,7 @@ pub fn locate(frame: &[f64], level: CellLevel, p: Vec3d) -> Located
     if CellLevel::FINEST < asked {
         return Located::Refused(Refusal::BadLevel);
     }
-    place_of(frame, asked, p)
+    place_of(frame, asked, p.x, p.y, p.z)
 }
 
 impl Row {
@@ -173,7 +166,8 @@ fn write_rows(frame: &[f64], level: u32, input: &[f64], out: &mut [i32]) -> usiz
     let mut refused = 0usize;
     let mut k = 0usize;
     while k < n {
-        let located = place_of(frame, level, vec3d::vec_at(input, 3 * k));
+        let p = vec3d::vec_at(input, 3 * k);
+        let located = place_of(frame, level, p.x, p.y, p.z);
         put_row(out, 4 * k, Row::of(located));
         refused += refusals_in(located);
         k += 1;

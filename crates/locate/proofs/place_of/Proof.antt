@@ -1,4 +1,4 @@
--- `place_at` meets its contract: the vector's tests come first. Assumes nothing.
+-- `place_of` meets its contract: the vector's tests come first. Assumes nothing.
 use borrow.Author.Needs.{needs}
 use mathlib.Core.Path.{sym, ap, _∙_}
 use mathlib.Core.List.{_++_}
@@ -9,8 +9,8 @@ use Rattle.vec3d.specs.Vectors.{vectorReasons}
 use Rattle.vec3d.proofs.Series.{series-fine, series-refused}
 use Rattle.faceijk.specs.Places.{placeValues}
 use Rattle.locate.specs.Locating.{placeOf, frontReasons}
-use Rattle.locate.proofs.place_at.Statement.{statement}
-use Rattle.locate.proofs.place_at.Tie as tie
+use Rattle.locate.proofs.place_of.Statement.{statement}
+use Rattle.locate.proofs.place_of.Tie as tie
 
 on-nearest-requires : tie.Need-on-nearest-requires
 on-nearest-requires c κs =
@@ -38,7 +38,7 @@ returns-2 c =
     (series-refused (vectorReasons p) (frontReasons (a .frame .now) (a .level) p) _
     (sym (c .before .before .before .verdict .ensures) ∙ c .before .verdict2 .given .1)))
 
-pub place-at-spec : {M : Type 1} → statement M
-place-at-spec =
+pub place-of-spec : {M : Type 1} → statement M
+place-of-spec =
     tie.close
     (tie.spec (λ c κs. search needs) (λ c κs. search needs) (λ c. search needs) on-nearest-requires (λ c. search needs) returns returns-2)
