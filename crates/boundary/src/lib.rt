@@ -497,8 +497,8 @@ impl Shape {
         requires { ⌜ Fit self × Okay (now .place) × (self .sides ≡ 5) ⌝ }
         ensures { λ r. ⌜ r ≡ beforeFrom self k last now ⌝ }
     {
-        let odd = self.cell.odd;
-        if (k == 0) | !odd {
+        let class_three = self.cell.odd;
+        if (k == 0) | !class_three {
             return Before::Nothing;
         }
         self.cell.pentagon_crossing(last.place, now.place)
