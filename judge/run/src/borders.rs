@@ -7,18 +7,18 @@ use std::any::Any;
 use std::panic;
 
 /// What is walked round: the C function, the source's, and how many sides it has.
-struct Shape {
-    name: &'static str,
+pub struct Shape {
+    pub name: &'static str,
     sides: u32,
     ours: ours::Outline,
     theirs: fn(&plane::FaceIJK, Resolution, Vertex, u8) -> Boundary,
 }
 
-const HEXAGON: Shape = Shape { name: "hexagon", sides: 6, ours: bare::hexagon, theirs: plane::FaceIJK::hexagon_boundary };
-const PENTAGON: Shape = Shape { name: "pentagon", sides: 5, ours: bare::pentagon, theirs: plane::FaceIJK::pentagon_boundary };
+pub const HEXAGON: Shape = Shape { name: "hexagon", sides: 6, ours: bare::hexagon, theirs: plane::FaceIJK::hexagon_boundary };
+pub const PENTAGON: Shape = Shape { name: "pentagon", sides: 5, ours: bare::pentagon, theirs: plane::FaceIJK::pentagon_boundary };
 
 /// A part of a boundary: the first corner and how many.
-type Part = (u32, u32);
+pub type Part = (u32, u32);
 
 pub fn on_plane((f, i, j, k): At) -> plane::FaceIJK {
     plane::FaceIJK::new(Face::new_unchecked(f), CoordIJK::new(i as i32, j as i32, k as i32))
@@ -50,8 +50,8 @@ fn refusal(at: At, level: u32, bad_range: bool, tests_face: bool) -> u32 {
     if tests_face && s > m { 11 } else { 0 }
 }
 
-fn corners(tally: &mut Tally, at: At, level: u32) {
-    let theirs = match refusal(at, level, false, false) {
+pub fn oracle_corners(at: At, level: u32) -> Said<19> {
+    match refusal(at, level, false, false) {
         0 => {
             let mut six = [FaceIJK::default(); 6];
             let grid = places::place(at).vertices(Resolution(level as u8), &mut six);
@@ -60,8 +60,11 @@ fn corners(tally: &mut Tally, at: At, level: u32) {
             Said::done(std::array::from_fn(|n| if n == 0 { usize::from(grid) as u64 } else { six[(n - 1) / 3][(n - 1) % 3 + 1] }))
         }
         n => Said::refused(n),
-    };
-    tally.same(ours::corners(at, level), theirs, || format!("corners {at:?} {level}"));
+    }
+}
+
+fn corners(tally: &mut Tally, at: At, level: u32) {
+    tally.same(ours::corners(at, level), oracle_corners(at, level), || format!("corners {at:?} {level}"));
 }
 
 /// Runs the Rust without a word on the error stream should it panic.
@@ -102,7 +105,7 @@ fn numbers(b: &Boundary) -> [u64; 49] {
     std::array::from_fn(value)
 }
 
-fn expected(shape: &Shape, at: At, level: u32, (start, length): Part) -> Border {
+pub fn oracle(shape: &Shape, at: At, level: u32, (start, length): Part) -> Border {
     match refusal(at, level, start >= shape.sides || length > shape.sides, true) {
         0 => match caught(|| (shape.theirs)(&on_plane(at), Resolution(level as u8), Vertex(start as u8), length as u8)) {
             Ok(b) => Said::done(numbers(&b)),
@@ -114,7 +117,7 @@ fn expected(shape: &Shape, at: At, level: u32, (start, length): Part) -> Border 
 
 /// Asks for a boundary, and counts it if it has crossing points.
 fn border(tally: &mut Tally, crossed: &mut u64, shape: &Shape, at: At, level: u32, part: Part) {
-    let theirs = expected(shape, at, level, part);
+    let theirs = oracle(shape, at, level, part);
     *crossed += u64::from(theirs.number == 0 && theirs.values[0] > u64::from(part.1));
     tally.same(ours::border(shape.ours, at, level, part), theirs, || format!("{} {at:?} {level} {part:?}", shape.name));
 }
@@ -170,7 +173,7 @@ fn damaged(c: &mut Chance, (f, i, j, k): At) -> At {
 }
 
 /// Cells all over the faces and beyond, many near the limit and near the corners of the faces.
-fn some_cell(c: &mut Chance, level: u32) -> At {
+pub fn some_cell(c: &mut Chance, level: u32) -> At {
     let good = level.min(15);
     let all = 3 * u64::from(places::limit(good, false)) + 1;
     let face = c.below(20) as u32;
@@ -205,7 +208,7 @@ fn inner_cell(c: &mut Chance, level: u32) -> At {
     at
 }
 
-fn some_level(c: &mut Chance) -> u32 {
+pub fn some_level(c: &mut Chance) -> u32 {
     if c.below(60) == 0 { 16 + c.below(4) as u32 } else { c.below(16) as u32 }
 }
 
@@ -227,6 +230,14 @@ fn all_parts(shape: &Shape) -> impl Iterator<Item = Part> {
     (0..=most).flat_map(move |start| (0..=most).map(move |length| (start, length)))
 }
 
+/// Mostly the whole boundary, else any part, now and then one that is refused.
+pub fn some_part(c: &mut Chance, shape: &Shape) -> Part {
+    match c.below(3) {
+        0 => (c.below(u64::from(shape.sides) + 1) as u32, c.below(u64::from(shape.sides) + 2) as u32),
+        _ => (c.below(u64::from(shape.sides)) as u32, shape.sides),
+    }
+}
+
 fn run(tally: &mut Tally, shape: &Shape, chance: u64, many: u64) {
     let mut crossed = 0;
     for level in 0..17 {
@@ -244,10 +255,7 @@ fn run(tally: &mut Tally, shape: &Shape, chance: u64, many: u64) {
     for _ in 0..many {
         let level = some_level(&mut c);
         let at = some_cell(&mut c, level);
-        let part = match c.below(3) {
-            0 => (c.below(u64::from(shape.sides) + 1) as u32, c.below(u64::from(shape.sides) + 2) as u32),
-            _ => (c.below(u64::from(shape.sides)) as u32, shape.sides),
-        };
+        let part = some_part(&mut c, shape);
         border(tally, &mut crossed, shape, at, level, part);
     }
     println!("  {crossed} with crossing points");

@@ -5,9 +5,12 @@ mod chance;
 mod ours;
 mod places;
 mod plane;
+mod record;
 mod round;
 mod short;
 mod vectors;
+
+use std::path::Path;
 
 /// How many questions of one kind were asked, how many got each refusal, and how many answers differed.
 pub struct Tally {
@@ -68,11 +71,17 @@ const QUESTIONS: [Question; 17] = [
     ("pentagon", borders::run_pentagon),
 ];
 
-/// Asks all questions, or those named; `bench` times both sides instead.
+/// Where the sample of `ask_main` lies, from the top of the repository.
+const SAMPLE: &str = "crates/ask_main";
+
+/// Asks all questions, or those named; `bench` times both sides instead, and `record` writes a sample, into a folder or its own.
 fn main() {
     let names: Vec<String> = std::env::args().skip(1).collect();
     if names == ["bench"] {
         return bench::run();
+    }
+    if names.first().is_some_and(|n| n == "record") {
+        return record::run(Path::new(names.get(1).map_or(SAMPLE, String::as_str)));
     }
     let mut bad = false;
     let wanted = |name: &str| names.is_empty() || names.iter().any(|n| n == name);

@@ -48,20 +48,24 @@ fn crossed(p: &mut FaceIJK, level: u32, substrate: bool, turn: bool) -> Overage 
     if substrate { p.adjust_overage_class2::<true>(level, turn) } else { p.adjust_overage_class2::<false>(level, turn) }
 }
 
-fn cross(tally: &mut Tally, at: At, level: u32, substrate: bool, turn: bool) {
-    let theirs = match refusal(at, Some(level), None) {
+pub fn oracle_cross(at: At, level: u32, substrate: bool, turn: bool) -> Said<5> {
+    match refusal(at, Some(level), None) {
         0 => {
             let mut p = place(at);
             let answer = crossed(&mut p, level, substrate, turn);
             Said::done(five(numbers(p), answer as u64))
         }
         n => Said::refused(n),
-    };
+    }
+}
+
+fn cross(tally: &mut Tally, at: At, level: u32, substrate: bool, turn: bool) {
+    let theirs = oracle_cross(at, level, substrate, turn);
     tally.same(ours::cross(at, level, substrate, turn), theirs, || format!("cross {at:?} {level} {substrate} {turn}"));
 }
 
-fn settle(tally: &mut Tally, at: At, level: u32, substrate: bool) {
-    let theirs = match refusal(at, Some(level), None) {
+pub fn oracle_settle(at: At, level: u32, substrate: bool) -> Said<5> {
+    match refusal(at, Some(level), None) {
         0 => {
             let (mut p, mut steps) = (place(at), 0);
             loop {
@@ -80,7 +84,11 @@ fn settle(tally: &mut Tally, at: At, level: u32, substrate: bool) {
             Said::done(five(numbers(p), steps))
         }
         n => Said::refused(n),
-    };
+    }
+}
+
+fn settle(tally: &mut Tally, at: At, level: u32, substrate: bool) {
+    let theirs = oracle_settle(at, level, substrate);
     tally.same(ours::settle(at, level, substrate), theirs, || format!("settle {at:?} {level} {substrate}"));
 }
 
@@ -96,27 +104,34 @@ fn stepped(at: At, level: u32, substrate: bool, edge: u32) -> FaceIJK {
     FaceIJK::new(way.face, (c + by).normalize())
 }
 
-fn step(tally: &mut Tally, at: At, level: u32, substrate: bool, edge: u32) {
-    let theirs = match refusal(at, Some(level), Some(edge)) {
+pub fn oracle_step(at: At, level: u32, substrate: bool, edge: u32) -> Said<4> {
+    match refusal(at, Some(level), Some(edge)) {
         0 => Said::done(numbers(stepped(at, level, substrate, edge))),
         n => Said::refused(n),
-    };
+    }
+}
+
+fn step(tally: &mut Tally, at: At, level: u32, substrate: bool, edge: u32) {
+    let theirs = oracle_step(at, level, substrate, edge);
     tally.same(ours::step(at, level, substrate, edge), theirs, || format!("step {at:?} {level} {substrate} {edge}"));
 }
 
-fn turn(tally: &mut Tally, at: At, clockwise: bool) {
-    let theirs = match refusal(at, None, None) {
+pub fn oracle_turn(at: At, clockwise: bool) -> Said<4> {
+    match refusal(at, None, None) {
         0 => {
             let c = if clockwise { coord(at).rotate60::<false>() } else { coord(at).rotate60::<true>() };
             Said::done(numbers(FaceIJK::new(Face::new_unchecked(at.0 as usize), c)))
         }
         n => Said::refused(n),
-    };
-    tally.same(ours::turn(at, clockwise), theirs, || format!("turn {at:?} {clockwise}"));
+    }
+}
+
+fn turn(tally: &mut Tally, at: At, clockwise: bool) {
+    tally.same(ours::turn(at, clockwise), oracle_turn(at, clockwise), || format!("turn {at:?} {clockwise}"));
 }
 
 /// A place of every kind: within a few limits, at s = m - 1, m, m + 1, up to 2^26 and past it, unreduced, bad faces.
-fn some_place(c: &mut Chance, m: u32) -> At {
+pub fn some_place(c: &mut Chance, m: u32) -> At {
     let face = if c.below(50) == 0 { c.below(25) as u32 } else { c.below(20) as u32 };
     let (a, b) = match c.below(8) {
         0 => {
@@ -138,12 +153,12 @@ fn some_place(c: &mut Chance, m: u32) -> At {
     }
 }
 
-fn some_level(c: &mut Chance) -> u32 {
+pub fn some_level(c: &mut Chance) -> u32 {
     if c.below(40) == 0 { c.below(20) as u32 } else { 2 * c.below(9) as u32 }
 }
 
 /// The grid's limit, for a level that may be bad.
-fn around(level: u32, substrate: bool) -> u32 {
+pub fn around(level: u32, substrate: bool) -> u32 {
     limit(level.min(16), substrate)
 }
 
@@ -176,6 +191,15 @@ pub fn run_cross(tally: &mut Tally) {
     }
 }
 
+/// A place that is not too many steps away: a walk from far off at a coarse level is long.
+pub fn some_start(c: &mut Chance, level: u32, substrate: bool, far: u32) -> At {
+    let at = some_place(c, around(level, substrate));
+    if at.1.max(at.2).max(at.3) > far && refusal(at, Some(level), None) == 0 {
+        return (at.0, at.1 % far, at.2 % far, at.3 % far);
+    }
+    at
+}
+
 pub fn run_settle(tally: &mut Tally) {
     for (level, n) in [(0, 20), (2, 25), (3, 2)] {
         for substrate in [false, true] {
@@ -185,13 +209,9 @@ pub fn run_settle(tally: &mut Tally) {
     let mut c = Chance(3);
     for n in 0..10_000_000u64 {
         let (level, substrate) = (some_level(&mut c), c.below(2) == 1);
-        let m = around(level, substrate);
-        let mut at = some_place(&mut c, m);
-        // a walk from far off at a coarse level is long: most stay within some hundred limits
-        let far = if n % 100_000 == 0 { LARGEST / 64 } else { m.saturating_mul(300) };
-        if at.1.max(at.2).max(at.3) > far && refusal(at, Some(level), None) == 0 {
-            at = (at.0, at.1 % far, at.2 % far, at.3 % far);
-        }
+        // most stay within some hundred limits
+        let far = if n % 100_000 == 0 { LARGEST / 64 } else { around(level, substrate).saturating_mul(300) };
+        let at = some_start(&mut c, level, substrate, far);
         settle(tally, at, level, substrate);
     }
 }
@@ -223,33 +243,44 @@ pub fn run_turn(tally: &mut Tally) {
     }
 }
 
+pub fn oracle_direction(from: u32, to: u32) -> Said<1> {
+    if from > 19 || to > 19 {
+        return Said::refused(3);
+    }
+    if from == to {
+        return Said::done([0]);
+    }
+    let over = &face::NEIGHBORS[from as usize];
+    let found = (1..4).find(|&e| usize::from(over[e].face) == to as usize);
+    Said::done([found.unwrap_or(7) as u64])
+}
+
 pub fn run_direction(tally: &mut Tally) {
     for from in (0..40).chain([u32::MAX, 1 << 31]) {
         for to in (0..40).chain([u32::MAX, 1 << 31]) {
-            let theirs = if from > 19 || to > 19 {
-                Said::refused(3)
-            } else if from == to {
-                Said::done([0])
-            } else {
-                let over = &face::NEIGHBORS[from as usize];
-                let found = (1..4).find(|&e| usize::from(over[e].face) == to as usize);
-                Said::done([found.unwrap_or(7) as u64])
-            };
-            tally.same(ours::direction(from, to), theirs, || format!("direction {from} {to}"));
+            tally.same(ours::direction(from, to), oracle_direction(from, to), || format!("direction {from} {to}"));
         }
     }
+}
+
+pub fn oracle_same(a: At, b: At) -> Said<1> {
+    match (refusal(a, None, None), refusal(b, None, None)) {
+        (0, 0) => Said::done([u64::from(a == b)]),
+        (x, y) if x == 3 || y == 3 => Said::refused(3),
+        _ => Said::refused(10),
+    }
+}
+
+/// Two places, equal or not.
+pub fn some_pair(c: &mut Chance) -> (At, At) {
+    let a = some_place(c, 12);
+    (a, if c.below(2) == 0 { a } else { some_place(c, 12) })
 }
 
 pub fn run_same(tally: &mut Tally) {
     let mut c = Chance(6);
     for _ in 0..10_000_000 {
-        let a = some_place(&mut c, 12);
-        let b = if c.below(2) == 0 { a } else { some_place(&mut c, 12) };
-        let theirs = match (refusal(a, None, None), refusal(b, None, None)) {
-            (0, 0) => Said::done([u64::from(a == b)]),
-            (x, y) if x == 3 || y == 3 => Said::refused(3),
-            _ => Said::refused(10),
-        };
-        tally.same(ours::same_corner(a, b), theirs, || format!("same {a:?} {b:?}"));
+        let (a, b) = some_pair(&mut c);
+        tally.same(ours::same_corner(a, b), oracle_same(a, b), || format!("same {a:?} {b:?}"));
     }
 }

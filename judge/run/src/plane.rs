@@ -6,33 +6,39 @@ fn said(v: Vec2d) -> Said<2> {
     Said::done([v.x.to_bits(), v.y.to_bits()])
 }
 
+pub fn oracle_centre((i, j, k): (u32, u32, u32)) -> Said<2> {
+    let taken = i.min(j).min(k) == 0 && i.max(j).max(k) <= 1 << 26;
+    if taken { said(CoordIJK::new(i as i32, j as i32, k as i32).into()) } else { Said::refused(10) }
+}
+
+/// A triple up to 2^26 and a little beyond, now and then unreduced.
+pub fn some_triple(c: &mut Chance) -> (u32, u32, u32) {
+    let (a, b) = (c.below((1 << 26) + 3) as u32, c.below((1 << 26) + 3) as u32 >> c.below(27));
+    match c.below(4) {
+        0 => (a, b, 0),
+        1 => (0, a, b),
+        2 => (b, 0, a),
+        _ => (a, b, c.below(2) as u32),
+    }
+}
+
 pub fn run_centre(tally: &mut Tally) {
     let mut c = Chance(7);
-    let mut ask = |i: u32, j: u32, k: u32| {
-        let taken = i.min(j).min(k) == 0 && i.max(j).max(k) <= 1 << 26;
-        let theirs = if taken { said(CoordIJK::new(i as i32, j as i32, k as i32).into()) } else { Said::refused(10) };
-        tally.same(ours::centre((i, j, k)), theirs, || format!("centre {i} {j} {k}"));
-    };
+    let mut ask = |at: (u32, u32, u32)| tally.same(ours::centre(at), oracle_centre(at), || format!("centre {at:?}"));
     for i in 0..60 {
         for j in 0..60 {
             for k in 0..60 {
-                ask(i, j, k);
+                ask((i, j, k));
             }
         }
     }
     for _ in 0..4_000_000 {
-        let (a, b) = (c.below((1 << 26) + 3) as u32, c.below((1 << 26) + 3) as u32 >> c.below(27));
-        match c.below(4) {
-            0 => ask(a, b, 0),
-            1 => ask(0, a, b),
-            2 => ask(b, 0, a),
-            _ => ask(a, b, c.below(2) as u32),
-        }
+        ask(some_triple(&mut c));
     }
 }
 
 /// 6 for a number that is none, 13 where the divisor is zero or a result not finite, else what the Rust says.
-fn expected(l: &[f64; 8]) -> Said<2> {
+pub fn oracle_meet(l: &[f64; 8]) -> Said<2> {
     if l.iter().any(|x| !x.is_finite()) {
         return Said::refused(6);
     }
@@ -46,19 +52,42 @@ fn expected(l: &[f64; 8]) -> Said<2> {
     said(met)
 }
 
+/// Numbers that make lines parallel, points of one, or too long.
+fn odd_lines(c: &mut Chance) -> [f64; 8] {
+    let odd = [0., -0., 1., -1., 0.5, 2., 1e300, -1e300, f64::MIN_POSITIVE, f64::INFINITY, f64::NAN];
+    std::array::from_fn(|_| odd[c.below(odd.len() as u64) as usize])
+}
+
+fn any_lines(c: &mut Chance) -> [f64; 8] {
+    std::array::from_fn(|_| f64::from_bits(c.bits()))
+}
+
+/// Lines among the hexagons of some level.
+fn grid_lines(c: &mut Chance) -> [f64; 8] {
+    let size = f64::from_bits((1023 + c.below(28)) << 52);
+    std::array::from_fn(|_| c.unit() * size)
+}
+
+/// One pair of lines of the mix that `run_meet` asks.
+pub fn some_lines(c: &mut Chance) -> [f64; 8] {
+    match c.below(5) {
+        0 => odd_lines(c),
+        1 => any_lines(c),
+        _ => grid_lines(c),
+    }
+}
+
 pub fn run_meet(tally: &mut Tally) {
     let mut c = Chance(8);
-    let mut ask = |l: [f64; 8]| tally.same(ours::meet(&l), expected(&l), || format!("meet {l:?}"));
-    let small = [0., -0., 1., -1., 0.5, 2., 1e300, -1e300, f64::MIN_POSITIVE, f64::INFINITY, f64::NAN];
+    let mut ask = |l: [f64; 8]| tally.same(ours::meet(&l), oracle_meet(&l), || format!("meet {l:?}"));
     for _ in 0..2_000_000 {
-        ask(std::array::from_fn(|_| small[c.below(small.len() as u64) as usize]));
+        ask(odd_lines(&mut c));
     }
     for _ in 0..2_000_000 {
-        ask(std::array::from_fn(|_| f64::from_bits(c.bits())));
+        ask(any_lines(&mut c));
     }
     for _ in 0..6_000_000 {
-        let size = f64::from_bits((1023 + c.below(28)) << 52);
-        ask(std::array::from_fn(|_| c.unit() * size));
+        ask(grid_lines(&mut c));
     }
     for n in [0, 1, 7, 9, 16] {
         tally.same(ours::meet(&vec![1.; n]), Said::refused(2), || format!("meet with {n} doubles"));

@@ -5,7 +5,7 @@ use h3o::coord::{CoordIJK, Vec2d};
 const LIMIT: f64 = 33554432.;
 
 /// What document 01 says: 6 for a NaN or an infinity, 9 from 2^25 on, else what the Rust says.
-fn expected(x: f64, y: f64) -> Said<3> {
+pub fn oracle(x: f64, y: f64) -> Said<3> {
     if !x.is_finite() || !y.is_finite() {
         return Said::refused(6);
     }
@@ -17,7 +17,7 @@ fn expected(x: f64, y: f64) -> Said<3> {
 }
 
 fn ask(tally: &mut Tally, x: f64, y: f64) {
-    tally.same(ours::round(x, y), expected(x, y), || format!("round {:016x} {:016x}", x.to_bits(), y.to_bits()));
+    tally.same(ours::round(x, y), oracle(x, y), || format!("round {:016x} {:016x}", x.to_bits(), y.to_bits()));
 }
 
 /// The numbers next to x, and x with the other sign.
@@ -25,13 +25,54 @@ fn around(x: f64) -> [f64; 4] {
     [x, -x, f64::from_bits(x.to_bits().wrapping_add(1)), f64::from_bits(x.to_bits().wrapping_sub(1))]
 }
 
-pub fn run(tally: &mut Tally) {
-    let mut chance = Chance(1);
+/// Numbers at which something changes, and their neighbours.
+fn edges() -> Vec<f64> {
     let edges = [
         0., f64::MIN_POSITIVE, f64::from_bits(1), 0.5, 1. / 3., 2. / 3., 0.25, 1., 1.5, 2., LIMIT, LIMIT / 2., LIMIT - 0.5, 1e300,
         f64::MAX, f64::INFINITY, f64::NAN, 0.8660254037844386, 1.7320508075688772, 0.4330127018922193, 0.2886751345948129, 0.5773502691896258,
     ];
-    let all: Vec<f64> = edges.iter().flat_map(|&x| around(x)).collect();
+    edges.iter().flat_map(|&x| around(x)).collect()
+}
+
+/// Half, third and quarter grids: the steps along x and along y.
+const GRIDS: [(f64, f64); 3] = [(0.5, 0.4330127018922193), (1. / 6., 0.14433756729740643), (0.25, 0.25)];
+
+fn any_bits(c: &mut Chance) -> (f64, f64) {
+    (f64::from_bits(c.bits()), f64::from_bits(c.bits()))
+}
+
+/// A point of a size from 2^-30 to 2^27.
+fn of_a_size(c: &mut Chance) -> (f64, f64) {
+    let size = f64::from_bits((1023 - 30 + c.below(58)) << 52);
+    (c.unit() * size, c.unit() * size)
+}
+
+fn up_to_the_limit(c: &mut Chance) -> (f64, f64) {
+    (c.unit() * LIMIT * 1.01, c.unit() * LIMIT * 1.01)
+}
+
+/// One point of the mix that `run` asks.
+pub fn some_point(c: &mut Chance) -> (f64, f64) {
+    match c.below(8) {
+        0 | 1 => {
+            let all = edges();
+            let mut one = || all[c.below(all.len() as u64) as usize];
+            (one(), one())
+        }
+        2..5 => {
+            let (step, rise) = GRIDS[c.below(3) as usize];
+            let (a, b) = (c.below(241) as f64 - 120., c.below(241) as f64 - 120.);
+            (around(a * step)[c.below(4) as usize], b * rise)
+        }
+        5 => any_bits(c),
+        6 => of_a_size(c),
+        _ => up_to_the_limit(c),
+    }
+}
+
+pub fn run(tally: &mut Tally) {
+    let mut chance = Chance(1);
+    let all = edges();
     for &x in &all {
         for &y in &all {
             ask(tally, x, y);
@@ -40,7 +81,7 @@ pub fn run(tally: &mut Tally) {
     // half and third grids, exactly and one number off
     for a in -120..=120 {
         for b in -120..=120 {
-            for (step, rise) in [(0.5, 0.4330127018922193), (1. / 6., 0.14433756729740643), (0.25, 0.25)] {
+            for (step, rise) in GRIDS {
                 for x in around(f64::from(a) * step) {
                     ask(tally, x, f64::from(b) * rise);
                 }
@@ -48,14 +89,15 @@ pub fn run(tally: &mut Tally) {
         }
     }
     for _ in 0..3_000_000 {
-        ask(tally, f64::from_bits(chance.bits()), f64::from_bits(chance.bits()));
+        let (x, y) = any_bits(&mut chance);
+        ask(tally, x, y);
     }
     for _ in 0..10_000_000 {
-        let size = f64::from_bits((1023 - 30 + chance.below(58)) << 52);
-        let (x, y) = (chance.unit() * size, chance.unit() * size);
+        let (x, y) = of_a_size(&mut chance);
         ask(tally, x, y);
     }
     for _ in 0..5_000_000 {
-        ask(tally, chance.unit() * LIMIT * 1.01, chance.unit() * LIMIT * 1.01);
+        let (x, y) = up_to_the_limit(&mut chance);
+        ask(tally, x, y);
     }
 }

@@ -37,7 +37,7 @@ fn off_sphere(v: Vector) -> bool {
 }
 
 /// A frame, and whether document 01 refuses it.
-struct Frame {
+pub struct Frame {
     numbers: Vec<f64>,
     bad: bool,
     /// Whether it is the one that the Rust's tables are made from.
@@ -50,7 +50,7 @@ impl Frame {
         let bad = numbers.len() != 180 || numbers.iter().any(|x| !x.is_finite()) || numbers.chunks(9).any(parts_bad);
         Self { numbers, bad, default: false }
     }
-    fn default() -> Self {
+    pub fn default() -> Self {
         Self { default: true, ..Self::new(FRAME.clone()) }
     }
     /// 0 for a face's centre, 1 for u, 2 for v.
@@ -223,34 +223,63 @@ fn beside_rust(tally: &mut Tally, seen: &mut Level, v: Vector, level: u32, rule:
     }
 }
 
-fn place(tally: &mut Tally, seen: &mut [Level; 16], frame: &Frame, v: Vector, level: u32) {
-    let rule = match refusal(frame, level, v) {
+/// Document 01's place, or its refusal.
+fn by_rule(frame: &Frame, v: Vector, level: u32) -> Result<ByRule, u32> {
+    match refusal(frame, level, v) {
         0 => ByRule::new(frame, v, level),
         n => Err(n),
-    };
-    let expected = rule.as_ref().map_or_else(|&n| Said::refused(n), ByRule::said);
-    tally.same(ours::place(&frame.numbers, v, level), expected, || format!("place {v:?} {level}"));
+    }
+}
+
+fn said_of(rule: &Result<ByRule, u32>) -> Said<4> {
+    rule.as_ref().map_or_else(|&n| Said::refused(n), ByRule::said)
+}
+
+/// The place by document 01 with the default frame, unless the Rust has another.
+pub fn agreed_place(frame: &Frame, v: Vector, level: u32) -> Option<Said<4>> {
+    let said = said_of(&by_rule(frame, v, level));
+    let rust = || Said::done(places::numbers(FaceIJK::from_vec3d(vec3d(v), Resolution(level as u8))));
+    (said.number != 0 || said == rust()).then_some(said)
+}
+
+fn place(tally: &mut Tally, seen: &mut [Level; 16], frame: &Frame, v: Vector, level: u32) {
+    let rule = by_rule(frame, v, level);
+    tally.same(ours::place(&frame.numbers, v, level), said_of(&rule), || format!("place {v:?} {level}"));
     if let (true, Ok(rule)) = (frame.default, rule) {
         beside_rust(tally, &mut seen[level as usize], v, level, &rule);
     }
 }
 
-fn nearest(tally: &mut Tally, near_ties: &mut [u64; 2], frame: &Frame, v: Vector) {
-    let theirs = match refusal(frame, 0, v) {
+/// Document 01's nearest face and its distance, or its refusal; and how much farther the next face is.
+fn nearest_by_rule(frame: &Frame, v: Vector) -> (Said<2>, f64) {
+    match refusal(frame, 0, v) {
         0 => {
             let (face, distance, gap) = frame.nearest(v);
-            let said = Said::done([face as u64, distance.to_bits()]);
-            if frame.default {
-                let (face, distance) = vec3d(v).closest_face();
-                let equal = said == Said::done([usize::from(face) as u64, distance.to_bits()]);
-                near_ties[0] += u64::from(gap <= TIE);
-                near_ties[1] += u64::from(gap <= TIE && !equal);
-                tally.also(equal || gap <= TIE, || format!("closest_face {v:?}"));
-            }
-            said
+            (Said::done([face as u64, distance.to_bits()]), gap)
         }
-        n => Said::refused(n),
-    };
+        n => (Said::refused(n), 0.),
+    }
+}
+
+fn rust_nearest(v: Vector) -> Said<2> {
+    let (face, distance) = vec3d(v).closest_face();
+    Said::done([usize::from(face) as u64, distance.to_bits()])
+}
+
+/// The nearest face by document 01 with the default frame, unless the Rust has another.
+pub fn agreed_nearest(frame: &Frame, v: Vector) -> Option<Said<2>> {
+    let (said, _) = nearest_by_rule(frame, v);
+    (said.number != 0 || said == rust_nearest(v)).then_some(said)
+}
+
+fn nearest(tally: &mut Tally, near_ties: &mut [u64; 2], frame: &Frame, v: Vector) {
+    let (theirs, gap) = nearest_by_rule(frame, v);
+    if theirs.number == 0 && frame.default {
+        let equal = theirs == rust_nearest(v);
+        near_ties[0] += u64::from(gap <= TIE);
+        near_ties[1] += u64::from(gap <= TIE && !equal);
+        tally.also(equal || gap <= TIE, || format!("closest_face {v:?}"));
+    }
     tally.same(ours::nearest(&frame.numbers, v), theirs, || format!("nearest {v:?}"));
 }
 
@@ -336,7 +365,7 @@ fn with_zeros(c: &mut Chance) -> Vector {
     v
 }
 
-fn some_vector(c: &mut Chance, frame: &Frame, level: u32) -> Vector {
+pub fn some_vector(c: &mut Chance, frame: &Frame, level: u32) -> Vector {
     match c.below(16) {
         0..4 => uniform(c),
         4 | 5 => edge_point(c, frame),
@@ -388,7 +417,7 @@ fn other_frames() -> Vec<Frame> {
     all.into_iter().map(Frame::new).collect()
 }
 
-fn some_level(c: &mut Chance) -> u32 {
+pub fn some_level(c: &mut Chance) -> u32 {
     if c.below(200) == 0 { 16 + c.below(4) as u32 } else { c.below(16) as u32 }
 }
 

@@ -1,0 +1,2 @@
+-- Laws of `ask`, for its readers and callers.
+pub mod Laws

@@ -1,0 +1,2 @@
+-- Definitions of `ask`: the text that answers a line.
+pub mod Asking

@@ -1,0 +1,2 @@
+-- Laws of `ask_values`: values taken from an answer.
+pub mod Taken

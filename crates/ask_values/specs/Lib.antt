@@ -1,0 +1,2 @@
+-- Definitions of `ask_values`: what an answer says.
+pub mod Values

@@ -1,0 +1,403 @@
+//! Writes the sample of `ask_main`: questions as lines, and beside them the oracle's answers. The proved library is asked
+//! nothing here, so that a sample never repeats a mistake of its own.
+use crate::borders::{self, HEXAGON, PENTAGON, Part, Shape};
+use crate::ours::{At, Border, Said, Vector};
+use crate::{chance::Chance, places, plane, round, vectors, vectors::Frame};
+use std::fs;
+use std::path::Path;
+
+/// How many questions of each kind are drawn.
+const MANY: usize = 2000;
+/// How many of them at least get each refusal that the question can give.
+const LEAST: usize = 20;
+/// The first seed; each kind has its own, so that a change to one leaves the others alone.
+const SEED: u64 = 100;
+
+const REFUSALS: [&str; 15] = [
+    "", "BadFrame", "BadRows", "BadFace", "BadLevel", "BadRange", "BadNumber", "OffSphere", "Behind", "TooFar", "NotReduced", "OutOfFace",
+    "NotAdjacent", "NoCrossing", "BadLine",
+];
+
+/// A question's line and its answer's; the number is the refusal's, 0 for none.
+struct Entry {
+    line: String,
+    number: usize,
+    answer: String,
+}
+
+fn refused(number: usize) -> String {
+    format!("refused {number} {}", REFUSALS[number])
+}
+
+impl Entry {
+    fn new<const N: usize>(line: String, said: Said<N>, words: impl Fn([u64; N]) -> String) -> Self {
+        let number = said.number as usize;
+        let answer = if number == 0 { words(said.values) } else { refused(number) };
+        Self { line, number, answer }
+    }
+}
+
+// What answers look like.
+
+fn joined(words: impl IntoIterator<Item = impl ToString>) -> String {
+    words.into_iter().map(|w| w.to_string()).collect::<Vec<_>>().join(" ")
+}
+
+fn plain<const N: usize>(values: [u64; N]) -> String {
+    joined(values)
+}
+
+fn bits(x: u64) -> String {
+    format!("{x:016x}")
+}
+
+fn crossed([f, i, j, k, answer]: [u64; 5]) -> String {
+    format!("{f} {i} {j} {k} {}", ["None", "FaceEdge", "NewFace"][answer as usize])
+}
+
+fn yes_or_no([same]: [u64; 1]) -> String {
+    ["no", "yes"][same as usize].into()
+}
+
+/// The points of a boundary that are used; `Border` tells in which order the values stand.
+fn outlined(values: [u64; 49]) -> String {
+    let mark = |n: usize| ["corner", "crossing"][values[2 * n + 2] as usize - 1];
+    let point = |n: usize| format!(" {} {} {} {}", values[2 * n + 1], bits(values[2 * n + 25]), bits(values[2 * n + 26]), mark(n));
+    let count = values[0] as usize;
+    (0..count).map(point).fold(count.to_string(), |all, one| all + &one)
+}
+
+// What questions look like.
+
+/// The decimal of a double, if one of at most 15 digits is exactly it. Minus zero is left to its bits.
+fn decimal(x: f64) -> Option<String> {
+    let word = format!("{x}");
+    let digits: String = word.chars().filter(char::is_ascii_digit).collect();
+    let after = word.split_once('.').map_or(0, |(_, after)| after.len());
+    if !x.is_finite() || digits.len() > 15 || x.to_bits() == (-0f64).to_bits() {
+        return None;
+    }
+    // n / 10^k is a fraction of a power of two where 5^k divides n
+    (digits.parse::<u64>().unwrap() % 5u64.pow(after as u32) == 0).then_some(word)
+}
+
+/// A double's bits, or now and then its decimal.
+fn double(c: &mut Chance, x: f64) -> String {
+    match decimal(x) {
+        Some(word) if c.below(2) == 0 => word,
+        _ => bits(x.to_bits()),
+    }
+}
+
+fn doubles<const N: usize>(c: &mut Chance, all: [f64; N]) -> String {
+    joined(all.map(|x| double(c, x)))
+}
+
+fn kind_of_grid(substrate: bool) -> char {
+    if substrate { 's' } else { 'p' }
+}
+
+// The questions, each with the oracle's answer.
+
+fn ask_round(c: &mut Chance, x: f64, y: f64) -> Entry {
+    Entry::new(format!("round {}", doubles(c, [x, y])), round::oracle(x, y), plain)
+}
+
+fn ask_centre((i, j, k): (u32, u32, u32)) -> Entry {
+    Entry::new(format!("centre {i} {j} {k}"), plane::oracle_centre((i, j, k)), |p| joined(p.map(bits)))
+}
+
+fn ask_meet(c: &mut Chance, lines: [f64; 8]) -> Entry {
+    Entry::new(format!("meet {}", doubles(c, lines)), plane::oracle_meet(&lines), |p| joined(p.map(bits)))
+}
+
+fn ask_turn(at: At, clockwise: bool) -> Entry {
+    let ((f, i, j, k), way) = (at, if clockwise { "cw" } else { "ccw" });
+    Entry::new(format!("turn {f} {i} {j} {k} {way}"), places::oracle_turn(at, clockwise), plain)
+}
+
+fn ask_step(at: At, level: u32, substrate: bool, edge: u32) -> Entry {
+    let ((f, i, j, k), grid) = (at, kind_of_grid(substrate));
+    Entry::new(format!("step {f} {level} {grid} {i} {j} {k} {edge}"), places::oracle_step(at, level, substrate, edge), plain)
+}
+
+fn ask_cross(at: At, level: u32, substrate: bool, turn: bool) -> Entry {
+    let ((f, i, j, k), grid, word) = (at, kind_of_grid(substrate), yes_or_no([turn.into()]));
+    Entry::new(format!("cross {f} {level} {grid} {i} {j} {k} {word}"), places::oracle_cross(at, level, substrate, turn), crossed)
+}
+
+fn ask_settle(at: At, level: u32, substrate: bool) -> Entry {
+    let ((f, i, j, k), grid) = (at, kind_of_grid(substrate));
+    Entry::new(format!("settle {f} {level} {grid} {i} {j} {k}"), places::oracle_settle(at, level, substrate), plain)
+}
+
+fn ask_direction(from: u32, to: u32) -> Entry {
+    Entry::new(format!("direction {from} {to}"), places::oracle_direction(from, to), plain)
+}
+
+fn ask_same(a: At, b: At) -> Entry {
+    let ((f, i, j, k), (g, x, y, z)) = (a, b);
+    Entry::new(format!("same {f} {i} {j} {k} {g} {x} {y} {z}"), places::oracle_same(a, b), yes_or_no)
+}
+
+/// None where the Rust and document 01 differ, near a tie of two faces.
+fn ask_nearest(c: &mut Chance, frame: &Frame, v: Vector) -> Option<Entry> {
+    let said = vectors::agreed_nearest(frame, v)?;
+    Some(Entry::new(format!("nearest {}", doubles(c, v)), said, |[face, distance]| format!("{face} {}", bits(distance))))
+}
+
+/// None where the Rust and document 01 differ, near the border of a hexagon.
+fn ask_place(c: &mut Chance, frame: &Frame, level: u32, v: Vector) -> Option<Entry> {
+    let said = vectors::agreed_place(frame, v, level)?;
+    Some(Entry::new(format!("place {level} {}", doubles(c, v)), said, plain))
+}
+
+fn ask_corners(at: At, level: u32) -> Entry {
+    let (f, i, j, k) = at;
+    Entry::new(format!("corners {f} {level} {i} {j} {k}"), borders::oracle_corners(at, level), plain)
+}
+
+fn ask_border(shape: &Shape, at: At, level: u32, part: Part) -> Entry {
+    let ((f, i, j, k), (start, length)) = (at, part);
+    let said: Border = borders::oracle(shape, at, level, part);
+    Entry::new(format!("{} {f} {level} {i} {j} {k} {start} {length}", shape.name), said, outlined)
+}
+
+// The judge's own mixes.
+
+/// Now and then one number that has more than a byte, or the highest bits: a line can say it as well as any other.
+fn strange<const N: usize>(c: &mut Chance, mut numbers: [u32; N]) -> [u32; N] {
+    let all = [256, 1 << 16, (1 << 26) + 1, (1 << 31) - 1, 1 << 31, u32::MAX];
+    if c.below(40) == 0 {
+        numbers[c.below(N as u64) as usize] = all[c.below(all.len() as u64) as usize];
+    }
+    numbers
+}
+
+fn draw_round(c: &mut Chance) -> Option<Entry> {
+    let (x, y) = round::some_point(c);
+    Some(ask_round(c, x, y))
+}
+
+fn draw_centre(c: &mut Chance) -> Option<Entry> {
+    let (i, j, k) = plane::some_triple(c);
+    let [i, j, k] = strange(c, [i, j, k]);
+    Some(ask_centre((i, j, k)))
+}
+
+fn draw_meet(c: &mut Chance) -> Option<Entry> {
+    let lines = plane::some_lines(c);
+    Some(ask_meet(c, lines))
+}
+
+fn draw_turn(c: &mut Chance) -> Option<Entry> {
+    let (f, i, j, k) = places::some_place(c, 1000);
+    let [f, i, j, k] = strange(c, [f, i, j, k]);
+    Some(ask_turn((f, i, j, k), c.below(2) == 1))
+}
+
+fn draw_step(c: &mut Chance) -> Option<Entry> {
+    let (level, substrate, edge) = (places::some_level(c), c.below(2) == 1, c.below(5) as u32);
+    let (f, i, j, k) = places::some_place(c, places::around(level, substrate));
+    let [f, i, j, k, level, edge] = strange(c, [f, i, j, k, level, edge]);
+    Some(ask_step((f, i, j, k), level, substrate, edge))
+}
+
+fn draw_cross(c: &mut Chance) -> Option<Entry> {
+    let (level, substrate, turn) = (places::some_level(c), c.below(2) == 1, c.below(3) == 0);
+    let (f, i, j, k) = places::some_place(c, places::around(level, substrate));
+    let [f, i, j, k, level] = strange(c, [f, i, j, k, level]);
+    Some(ask_cross((f, i, j, k), level, substrate, turn))
+}
+
+fn draw_settle(c: &mut Chance) -> Option<Entry> {
+    let (level, substrate) = (places::some_level(c), c.below(2) == 1);
+    // few walks are long ones, so that a reader of the sample is soon through
+    let far = if c.below(500) == 0 { places::LARGEST / 64 } else { places::around(level, substrate).saturating_mul(300) };
+    let (f, i, j, k) = places::some_start(c, level, substrate, far);
+    let [f, i, j, k, level] = strange(c, [f, i, j, k, level]);
+    Some(ask_settle((f, i, j, k), level, substrate))
+}
+
+fn draw_direction(c: &mut Chance) -> Option<Entry> {
+    let [from, to] = [c.below(21) as u32, c.below(21) as u32];
+    let [from, to] = strange(c, [from, to]);
+    Some(ask_direction(from, to))
+}
+
+fn draw_same(c: &mut Chance) -> Option<Entry> {
+    let ((f, i, j, k), (g, x, y, z)) = places::some_pair(c);
+    let [f, i, j, k, g, x, y, z] = strange(c, [f, i, j, k, g, x, y, z]);
+    Some(ask_same((f, i, j, k), (g, x, y, z)))
+}
+
+fn draw_nearest(c: &mut Chance) -> Option<Entry> {
+    let (frame, level) = (Frame::default(), c.below(16) as u32);
+    let v = vectors::some_vector(c, &frame, level);
+    ask_nearest(c, &frame, v)
+}
+
+fn draw_place(c: &mut Chance) -> Option<Entry> {
+    let (frame, level) = (Frame::default(), vectors::some_level(c));
+    let v = vectors::some_vector(c, &frame, level);
+    let [level] = strange(c, [level]);
+    ask_place(c, &frame, level, v)
+}
+
+fn draw_corners(c: &mut Chance) -> Option<Entry> {
+    let level = borders::some_level(c);
+    let (f, i, j, k) = borders::some_cell(c, level);
+    let [f, i, j, k, level] = strange(c, [f, i, j, k, level]);
+    Some(ask_corners((f, i, j, k), level))
+}
+
+fn draw_border(c: &mut Chance, shape: &Shape, level: u32, (f, i, j, k): At) -> Option<Entry> {
+    let (start, length) = borders::some_part(c, shape);
+    let [f, i, j, k, level, start, length] = strange(c, [f, i, j, k, level, start, length]);
+    Some(ask_border(shape, (f, i, j, k), level, (start, length)))
+}
+
+fn draw_hexagon(c: &mut Chance) -> Option<Entry> {
+    let level = borders::some_level(c);
+    let at = borders::some_cell(c, level);
+    draw_border(c, &HEXAGON, level, at)
+}
+
+/// One in three lies where a pentagon does: elsewhere few have crossing points.
+fn draw_pentagon(c: &mut Chance) -> Option<Entry> {
+    let level = borders::some_level(c);
+    let real = c.below(3) == 0;
+    let at = if real { borders::pentagon_centre(c.below(20) as u32, c.below(3), level.min(15)) } else { borders::some_cell(c, level) };
+    draw_border(c, &PENTAGON, level, at)
+}
+
+/// A question: its name, the refusals that it can give, and how one is drawn.
+type Kind = (&'static str, &'static [usize], fn(&mut Chance) -> Option<Entry>);
+
+/// With the default frame, 1, 2, 8 and 9 are out of reach of `nearest` and `place`.
+const KINDS: [Kind; 14] = [
+    ("round", &[6, 9], draw_round),
+    ("centre", &[10], draw_centre),
+    ("meet", &[6, 13], draw_meet),
+    ("turn", &[3, 10], draw_turn),
+    ("step", &[3, 4, 5, 10], draw_step),
+    ("cross", &[3, 4, 10], draw_cross),
+    ("settle", &[3, 4, 10], draw_settle),
+    ("direction", &[3], draw_direction),
+    ("same", &[3, 10], draw_same),
+    ("nearest", &[6, 7], draw_nearest),
+    ("place", &[4, 6, 7], draw_place),
+    ("corners", &[3, 4, 10], draw_corners),
+    ("hexagon", &[3, 4, 5, 10, 11], draw_hexagon),
+    ("pentagon", &[3, 4, 5, 10, 11, 12], draw_pentagon),
+];
+
+/// Draws questions of one kind. The last places are kept for the refusals that are still to come.
+fn sample((name, refusals, draw): Kind, seed: u64) -> Vec<Entry> {
+    let (mut c, mut seen, mut all) = (Chance(seed), [0; 15], vec![]);
+    while all.len() < MANY {
+        let Some(entry) = draw(&mut c) else { continue };
+        let n = entry.number;
+        assert!(n == 0 || refusals.contains(&n), "{}: {}", entry.line, entry.answer);
+        let lacking: usize = refusals.iter().map(|&r| LEAST.saturating_sub(seen[r])).sum();
+        let wanted = n != 0 && seen[n] < LEAST;
+        if wanted || all.len() + lacking < MANY {
+            seen[n] += 1;
+            all.push(entry);
+        }
+    }
+    let each: Vec<String> = refusals.iter().map(|&n| format!("{n}: {}", seen[n])).collect();
+    println!("{name}: {} recorded, {} answered, refused {}", all.len(), seen[0], each.join(", "));
+    all
+}
+
+/// A checked place of document 01: the oracle says what the paper says.
+fn checked(entry: Entry, paper: &str) -> Entry {
+    assert_eq!(entry.answer, paper, "{}", entry.line);
+    entry
+}
+
+fn checked_rounding() -> Vec<Entry> {
+    let paper = [
+        (0., 0., "0 0 0"), (1., 0., "1 0 0"), (-1., 0., "0 1 1"), (0.5, 0., "1 0 0"), (-0.5, 0., "0 1 1"), (0.49, 0., "0 0 0"),
+        (0.9, 0.9, "1 1 0"), (0.9, -0.9, "1 0 1"), (-0.9, 0.9, "0 1 0"), (-0.9, -0.9, "0 0 1"), (33554432., 0., "refused 9 TooFar"),
+    ];
+    let mut c = Chance(SEED - 1);
+    paper.into_iter().map(|(x, y, answer)| checked(ask_round(&mut c, x, y), answer)).collect()
+}
+
+fn checked_crossing() -> Vec<Entry> {
+    vec![
+        checked(ask_cross((0, 1, 1, 0), 0, false, false), "0 1 1 0 None"),
+        checked(ask_cross((0, 3, 0, 0), 0, false, false), "4 3 1 0 NewFace"),
+        checked(ask_cross((0, 3, 3, 0), 0, true, false), "0 3 3 0 FaceEdge"),
+        checked(ask_cross((0, 7, 2, 0), 0, true, false), "4 5 1 0 FaceEdge"),
+        checked(ask_cross((5, 4, 4, 0), 0, true, false), "10 2 2 0 NewFace"),
+        checked(ask_cross((0, 14, 0, 1), 2, false, true), "1 14 1 0 NewFace"),
+        checked(ask_cross((0, 1, 1, 0), 1, false, false), "refused 4 BadLevel"),
+        checked(ask_cross((0, 1, 1, 1), 0, false, false), "refused 10 NotReduced"),
+        checked(ask_cross((20, 1, 1, 0), 0, false, false), "refused 3 BadFace"),
+    ]
+}
+
+/// Document 01 names all corners at level 0, and the first one at level 1.
+fn checked_corners() -> Vec<Entry> {
+    let odd = ask_corners((0, 1, 0, 0), 1);
+    assert!(odd.answer.starts_with("2 14 7 0 "), "{}", odd.answer);
+    vec![checked(ask_corners((0, 1, 0, 0), 0), "0 5 1 0 4 2 0 2 1 0 2 0 1 4 0 2 5 0 1"), odd]
+}
+
+fn checked_places() -> Vec<Entry> {
+    let walk = checked(ask_settle((0, 3, 0, 0), 0, false), "2 1 0 0 3");
+    checked_rounding().into_iter().chain(checked_crossing()).chain(checked_corners()).chain([walk]).collect()
+}
+
+/// Lines that no question is written as.
+fn unreadable() -> Vec<Entry> {
+    let long = format!("centre 1 0 0{}", " 0".repeat(294));
+    assert_eq!(long.len(), 600);
+    let lines = [
+        "", " ", "ask 0 0", "round", "round 0", "round 0 0 0", "direction 0 1 2", "round  0 0", "round 0  0", " round 0 0", "round 0 0 ",
+        "direction 00 1", "centre 01 0 0", "round 00.5 0", "round 0.1 0", "round 0.500000000000000 0", "round .5 0", "round 5. 0",
+        "round +1 0", "round 1e3 0", "round 3ff 0", "round --1 0", "round - 0", "centre -1 0 0", "direction -1 0", "direction 4294967296 0",
+        "direction 99999999999999999999 0", "centre 1.0 0 0", "round 0 0\r", "\r", "direction 0\t1", "Round 0 0", "DIRECTION 0 1",
+        "cross 0 0 P 1 1 0 no", "cross 0 0 p 1 1 0 maybe", "cross 0 0 p 1 1 0", "turn 0 1 1 0 left", "step 0 0 p 1 1 0", "same 0 1 1 0 0 1 1",
+        "meet 0 0 1 1 0 1 1", "nearest 1 0", "place 0 1 0", "place 0.5 1 0 0", "corners 0 0 1 0", "hexagon 0 0 0 0 0 0", "roundx 0 0", &long,
+    ];
+    lines.into_iter().map(|line| Entry { line: line.into(), number: 14, answer: refused(14) }).collect()
+}
+
+/// Lines that can just be read: all digits that a number or a decimal may have, and digits that are a double's bits.
+fn just_readable() -> Vec<Entry> {
+    let said = |line: &str, entry: Entry| Entry { line: line.into(), ..entry };
+    let mut c = Chance(SEED - 1);
+    vec![
+        said("direction 4294967295 0", ask_direction(u32::MAX, 0)),
+        said("centre 4294967295 0 0", ask_centre((u32::MAX, 0, 0))),
+        said("round 0.50000000000000 -2.75", ask_round(&mut c, 0.5, -2.75)),
+        said("round -33554431.5000000 33554431", ask_round(&mut c, -33554431.5, 33554431.)),
+        said("round 999999999999999 0", ask_round(&mut c, 999999999999999., 0.)),
+        said("round 4000000000000000 0000000000000000", ask_round(&mut c, 2., 0.)),
+        said("round 7ff8000000000000 0", ask_round(&mut c, f64::NAN, 0.)),
+    ]
+}
+
+fn lines(entries: &[Entry], part: impl Fn(&Entry) -> &str) -> String {
+    entries.iter().map(|e| format!("{}\n", part(e))).collect()
+}
+
+/// Writes `stdin` and `stdout` into a folder.
+pub fn run(folder: &Path) {
+    let mut all = checked_places();
+    all.extend(unreadable());
+    all.extend(just_readable());
+    println!("{} checked places and lines of every spelling", all.len());
+    for (kind, seed) in KINDS.into_iter().zip(SEED..) {
+        all.extend(sample(kind, seed));
+    }
+    let (asked, answered) = (lines(&all, |e| &e.line), lines(&all, |e| &e.answer));
+    println!("{} lines, {} and {} bytes", all.len(), asked.len(), answered.len());
+    fs::create_dir_all(folder).expect("a folder to write into");
+    fs::write(folder.join("stdin"), asked).expect("the questions written");
+    fs::write(folder.join("stdout"), answered).expect("the answers written");
+}
