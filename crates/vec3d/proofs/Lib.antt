@@ -1,6 +1,7 @@
 -- Laws of `vec3d`: the frame's test, sizes, the nearest face, unique answers.
 pub mod Series
 pub mod Passing
+pub mod OnePass
 pub mod Sizes
 pub mod Comparing
 pub mod Choosing

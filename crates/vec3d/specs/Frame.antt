@@ -8,7 +8,7 @@ use lib.Ieee.{Float, nan}
 use Rattle.double.specs.Double.{finite}
 use Rattle.vec3d.specs.declared.Vec3d.{Vec3d}
 use Rattle.vec3d.specs.declared.FaceAxes.{FaceAxes}
-use Rattle.vec3d.specs.Vectors.{wide, offSphere}
+use Rattle.vec3d.specs.Vectors.{wide, loose, offSphere}
 
 -- the vector whose three numbers begin at a place of a list
 unfoldable pub vecAt : List Float → ℕ → Vec3d
@@ -34,3 +34,7 @@ badAxes s f = wide (faceAt s f .u) || wide (faceAt s f .v) || offSphere (faceAt 
 -- BadFrame: length not 180; a non-finite number; a face that will not do
 unfoldable pub badFrame : List Float → Bool
 badFrame s = not (eqb (length s) 180) || (nonFinite s || someBelow (badAxes s) 20)
+
+-- a face that will not do or has a non-finite number, as the code asks it
+unfoldable pub unfit : List Float → ℕ → Bool
+unfit s f = loose (faceAt s f .u) || loose (faceAt s f .v) || offSphere (faceAt s f .centre)

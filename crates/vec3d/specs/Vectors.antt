@@ -27,6 +27,10 @@ offSphere v = not (le sphereLow (dotOf v v) && le (dotOf v v) sphereHigh)
 unfoldable pub wide : Vec3d → Bool
 wide v = lt three (sizeOf (v .x)) || lt three (sizeOf (v .y)) || lt three (sizeOf (v .z))
 
+-- the same in one test with a part that is no finite number, as the code asks it: a part not within 3 in size
+unfoldable pub loose : Vec3d → Bool
+loose v = not ((le (sizeOf (v .x)) three && le (sizeOf (v .y)) three) && le (sizeOf (v .z)) three)
+
 abbrev pub vectorReasons : Vec3d → List Reason
 vectorReasons v = when (badNumber v) BadNumber ∷ when (offSphere v) OffSphere ∷ []
 

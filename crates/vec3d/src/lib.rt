@@ -3,8 +3,8 @@ ghost use mathlib.Core.Path.{_≡_};
 ghost use mathlib.Core.Bool.{false};
 ghost use Prim.Native.Nat.{_+_, _*_, _≤_, _<_};
 ghost use lib.ListN.{length};
-ghost use Rattle.vec3d.specs.Vectors.{dotOf, minusOf, badNumber, offSphere, wide, vectorVerdict};
-ghost use Rattle.vec3d.specs.Frame.{vecAt, faceAt, someBelow, nonFinite, badAxes, badFrame};
+ghost use Rattle.vec3d.specs.Vectors.{dotOf, minusOf, badNumber, offSphere, loose, vectorVerdict};
+ghost use Rattle.vec3d.specs.Frame.{vecAt, faceAt, someBelow, unfit, badFrame};
 ghost use Rattle.vec3d.specs.Nearest.{distanceOf, closerOf, nearestTo, saidNearest, nearestReply};
 use reply::Refusal;
 use reply::Verdict;
@@ -82,12 +82,13 @@ impl Vec3d {
         !((1.0 - Vec3d::TOLERANCE <= square) & (square <= 1.0 + Vec3d::TOLERANCE))
     }
 
-    fn wide(self) -> bool
-        ensures { λ r. ⌜ r ≡ wide self ⌝ }
+    // Whether a part is above 3 in size or no finite number. Written as "not within", so that a NaN is loose too.
+    fn loose(self) -> bool
+        ensures { λ r. ⌜ r ≡ loose self ⌝ }
     {
-        (Vec3d::WIDEST < double::size(self.x))
-            | (Vec3d::WIDEST < double::size(self.y))
-            | (Vec3d::WIDEST < double::size(self.z))
+        !((double::size(self.x) <= Vec3d::WIDEST)
+            & (double::size(self.y) <= Vec3d::WIDEST)
+            & (double::size(self.z) <= Vec3d::WIDEST))
     }
 
     // Whether this is a unit vector: a BadNumber comes before an OffSphere.
@@ -129,38 +130,26 @@ pub fn face_at(frame: &[f64], face: u32) -> FaceAxes
     }
 }
 
-fn non_finite(frame: &[f64]) -> bool
-    ensures { λ r. ⌜ r ≡ nonFinite (now (frame .entry)) ⌝ }
-{
-    let mut found = false;
-    let mut k = 0usize;
-    while k < frame.len() {
-        let number = frame[k];
-        found = found | !double::is_finite(number);
-        k += 1;
-    }
-    found
-}
-
-fn bad_axes(frame: &[f64], face: u32) -> bool
+fn unfit(frame: &[f64], face: u32) -> bool
     requires { ⌜ 9 * face + 9 ≤ length (now frame) ⌝ }
-    ensures { λ r. ⌜ r ≡ badAxes (now (frame .entry)) face ⌝ }
+    ensures { λ r. ⌜ r ≡ unfit (now (frame .entry)) face ⌝ }
 {
     let axes = face_at(frame, face);
     let centre = axes.centre;
     let u = axes.u;
     let v = axes.v;
-    u.wide() | v.wide() | centre.off_sphere()
+    u.loose() | v.loose() | centre.off_sphere()
 }
 
-fn some_bad_axes(frame: &[f64]) -> bool
+// One pass over the faces finds what is not finite too: a loose axis or a centre off the sphere.
+fn some_unfit(frame: &[f64]) -> bool
     requires { ⌜ length (now frame) ≡ 180 ⌝ }
-    ensures { λ r. ⌜ r ≡ someBelow (badAxes (now (frame .entry))) 20 ⌝ }
+    ensures { λ r. ⌜ r ≡ someBelow (unfit (now (frame .entry))) 20 ⌝ }
 {
     let mut found = false;
     let mut face = 0u32;
     while face < 20 {
-        found = found | bad_axes(frame, face);
+        found = found | unfit(frame, face);
         face += 1;
     }
     found
@@ -173,7 +162,7 @@ pub fn bad_frame(frame: &[f64]) -> bool
     if frame.len() != 180 {
         return true;
     }
-    non_finite(frame) | some_bad_axes(frame)
+    some_unfit(frame)
 }
 
 impl Nearest {

@@ -1,0 +1,13 @@
+-- `Vec3d::loose` meets its contract. Assumes nothing.
+use Rattle.vec3d.specs.Vectors.{loose}
+use borrow.Author.Needs.{needs}
+use Rattle.vec3d.proofs.Vec3d.loose.Statement.{statement}
+use Rattle.vec3d.proofs.Vec3d.loose.Tie as tie
+
+returns : tie.Need-returns
+unfolding loose
+returns c = rw (c .size3 .ensures, c .before .size2 .ensures, c .before .before .size .ensures)
+
+pub loose-spec : {M : Type 1} → statement M
+loose-spec = tie.close
+    (tie.spec (λ c κs. search needs) (λ c κs. search needs) (λ c κs. search needs) returns)
