@@ -1,4 +1,5 @@
 -- The fixed words of the desk tool's answers, as bytes.
+use Rattle.ask_question.specs.Questions.{text}
 use mathlib.Core.Path.{_≡_}
 use mathlib.Core.List.{List, [], _∷_}
 use Prim.Native.Nat.{ℕ, _-_, _≤_}
@@ -9,48 +10,48 @@ use Rattle.ask_words.specs.declared.Word.{Word}
 
 -- the words that stand for a value
 abbrev pub noneWord : List ℕ
-noneWord = 78 ∷ 111 ∷ 110 ∷ 101 ∷ []
+noneWord = text "None"
 
 abbrev pub faceEdgeWord : List ℕ
-faceEdgeWord = 70 ∷ 97 ∷ 99 ∷ 101 ∷ 69 ∷ 100 ∷ 103 ∷ 101 ∷ []
+faceEdgeWord = text "FaceEdge"
 
 abbrev pub newFaceWord : List ℕ
-newFaceWord = 78 ∷ 101 ∷ 119 ∷ 70 ∷ 97 ∷ 99 ∷ 101 ∷ []
+newFaceWord = text "NewFace"
 
 abbrev pub yesWord : List ℕ
-yesWord = 121 ∷ 101 ∷ 115 ∷ []
+yesWord = text "yes"
 
 abbrev pub noWord : List ℕ
-noWord = 110 ∷ 111 ∷ []
+noWord = text "no"
 
 abbrev pub cornerWord : List ℕ
-cornerWord = 99 ∷ 111 ∷ 114 ∷ 110 ∷ 101 ∷ 114 ∷ []
+cornerWord = text "corner"
 
 abbrev pub crossingWord : List ℕ
-crossingWord = 99 ∷ 114 ∷ 111 ∷ 115 ∷ 115 ∷ 105 ∷ 110 ∷ 103 ∷ []
+crossingWord = text "crossing"
 
 -- the names of the refusals, by their numbers from 1 on
 abbrev pub names : List (List ℕ)
 names =
-    (66 ∷ 97 ∷ 100 ∷ 70 ∷ 114 ∷ 97 ∷ 109 ∷ 101 ∷ []) ∷
-    (66 ∷ 97 ∷ 100 ∷ 82 ∷ 111 ∷ 119 ∷ 115 ∷ []) ∷
-    (66 ∷ 97 ∷ 100 ∷ 70 ∷ 97 ∷ 99 ∷ 101 ∷ []) ∷
-    (66 ∷ 97 ∷ 100 ∷ 76 ∷ 101 ∷ 118 ∷ 101 ∷ 108 ∷ []) ∷
-    (66 ∷ 97 ∷ 100 ∷ 82 ∷ 97 ∷ 110 ∷ 103 ∷ 101 ∷ []) ∷
-    (66 ∷ 97 ∷ 100 ∷ 78 ∷ 117 ∷ 109 ∷ 98 ∷ 101 ∷ 114 ∷ []) ∷
-    (79 ∷ 102 ∷ 102 ∷ 83 ∷ 112 ∷ 104 ∷ 101 ∷ 114 ∷ 101 ∷ []) ∷
-    (66 ∷ 101 ∷ 104 ∷ 105 ∷ 110 ∷ 100 ∷ []) ∷
-    (84 ∷ 111 ∷ 111 ∷ 70 ∷ 97 ∷ 114 ∷ []) ∷
-    (78 ∷ 111 ∷ 116 ∷ 82 ∷ 101 ∷ 100 ∷ 117 ∷ 99 ∷ 101 ∷ 100 ∷ []) ∷
-    (79 ∷ 117 ∷ 116 ∷ 79 ∷ 102 ∷ 70 ∷ 97 ∷ 99 ∷ 101 ∷ []) ∷
-    (78 ∷ 111 ∷ 116 ∷ 65 ∷ 100 ∷ 106 ∷ 97 ∷ 99 ∷ 101 ∷ 110 ∷ 116 ∷ []) ∷
-    (78 ∷ 111 ∷ 67 ∷ 114 ∷ 111 ∷ 115 ∷ 115 ∷ 105 ∷ 110 ∷ 103 ∷ []) ∷
-    (66 ∷ 97 ∷ 100 ∷ 76 ∷ 105 ∷ 110 ∷ 101 ∷ []) ∷
+    text "BadFrame" ∷
+    text "BadRows" ∷
+    text "BadFace" ∷
+    text "BadLevel" ∷
+    text "BadRange" ∷
+    text "BadNumber" ∷
+    text "OffSphere" ∷
+    text "Behind" ∷
+    text "TooFar" ∷
+    text "NotReduced" ∷
+    text "OutOfFace" ∷
+    text "NotAdjacent" ∷
+    text "NoCrossing" ∷
+    text "BadLine" ∷
     []
 
 -- a number that no refusal has gets the last name
 unfoldable pub nameOf : ℕ → List ℕ
-nameOf n = getD names (n - 1) (66 ∷ 97 ∷ 100 ∷ 76 ∷ 105 ∷ 110 ∷ 101 ∷ [])
+nameOf n = getD names (n - 1) (text "BadLine")
 
 -- How a crossing ended, whether corners agree, and what a point is, by their numbers. A number that stands for no word gets the last one: NewFace, no, crossing.
 unfoldable pub overageText : ℕ → List ℕ
