@@ -1,6 +1,6 @@
--- |x| is x's bit pattern without its highest bit, and whether x is finite is whether |x| is below infinity. Assumes nothing.
+-- |x| is x's bit pattern without its highest bit, and x is finite where it lies between the infinities. Assumes nothing.
 use mathlib.Core.Path.{_≡_, refl, sym, ap, _∙_, subst}
-use mathlib.Core.Bool.{Bool, true, false, not, true≢false}
+use mathlib.Core.Bool.{Bool, true, false, not, _&&_, true≢false}
 use Prim.Native.Nat.{ℕ, zero, suc, _+_, _*_, _%_, _^_, _<_}
 use native.Mathlib.Nat.{mod-eq-of-lt}
 use native.Mathlib.Omega.{arith}
@@ -15,6 +15,12 @@ unfolding ne isNan
 no-nan nan h = absurd (true≢false h)
 no-nan (inf s) h = tt
 no-nan (fin s m e) h = tt
+
+pub finite-no-nan : (x : Float) → finite x ≡ true → T (not (isNan x))
+unfolding isNan
+finite-no-nan nan h = absurd (true≢false (sym h))
+finite-no-nan (inf s) h = tt
+finite-no-nan (fin s m e) h = tt
 
 fits-size : (s t : Bool) (m : ℕ) (e : ℤ) → T (fits binary64 (fin s m e)) → T (fits binary64 (fin t m e))
 unfolding fits
@@ -58,8 +64,10 @@ pub size-bits-no-nan : (x : Float) → T (fits binary64 x) → T (not (isNan x))
 size-bits-no-nan x h k =
     subst (λ (b : Bool). T (not b)) (sym (nanBits-is binary64 (toBits binary64 x % 2 ^ 63) ∙ ap isNan (size-bits x h k))) (size-no-nan x k)
 
-pub finite-is : (x : Float) → lt (sizeOf x) (inf false) ≡ finite x
+pub finite-is : (x : Float) → (lt x (inf false) && lt (inf true) x) ≡ finite x
 unfolding lt
 finite-is nan = refl
-finite-is (inf s) = refl
-finite-is (fin s m e) = refl
+finite-is (inf true) = refl
+finite-is (inf false) = refl
+finite-is (fin true m e) = refl
+finite-is (fin false m e) = refl

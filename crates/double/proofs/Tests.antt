@@ -6,7 +6,8 @@ use native.Mathlib.Nat.{le-trans, le-of-eq, le-antisymm, lt-irrefl, mul-assoc, m
 use native.Mathlib.Omega.{arith}
 use borrow.Author.Tests.{lt-ltb}
 use lib.Dec.{T, T-not, ltb, eqb, ltb→lt, nltb→le, eqb→eq, eqb-refl, eqb·suc-zero, eqb·zero-suc}
-use lib.Ieee.{Float, nan, inf, fin, binary64, ofBits, up, down, div, lt, le}
+use lib.IntN.{ℤ}
+use lib.Ieee.{Float, nan, inf, fin, binary64, ofBits, up, down, div, lt, le, eq}
 use lib.Ieee.Fits.{down-pos}
 use lib.Ieee.Exact.{HasValue}
 use lib.Ieee.Positive.{num, den}
@@ -126,3 +127,56 @@ lt-not-le (fin true m e) (fin true n d) p q =
     let a = m * up e * down d in
     let b = n * up d * down e in
     order b a (ltb b a) (ltb a b) (eqb b a) (ltb→lt b a) (nltb→le b a) (ltb→lt a b) (nltb→le a b) (λ t. sym (eqb→eq b a t)) (λ t r. unequal b a t (sym r))
+
+-- ---- a size against a number from 0 up, by two comparisons without the size
+
+le-not-lt : (x y : Float) → finite x ≡ true → finite y ≡ true → le y x ≡ not (lt x y)
+le-not-lt x y p q = sym (ap not (lt-not-le x y p q) ∙ twice (le y x))
+  where
+    twice : (b : Bool) → not (not b) ≡ b
+    twice true = refl
+    twice false = refl
+
+module _ (k : ℕ) (d : ℤ) where
+  abbrev top : Float
+  top = fin false k d
+
+  abbrev bottom : Float
+  bottom = fin true k d
+
+  -- between -y and y the size is below y
+  pub between-lt : (x : Float) → lt x top ≡ true → lt bottom x ≡ true → (finite x ≡ true) × (lt (sizeOf x) top ≡ true)
+  unfolding lt
+  between-lt nan p q = absurd (false≢true p)
+  between-lt (inf true) p q = absurd (false≢true q)
+  between-lt (inf false) p q = absurd (false≢true p)
+  between-lt (fin true m e) p q = (refl, q)
+  between-lt (fin false m e) p q = (refl, p)
+
+  mirror : (m : ℕ) (e : ℤ) → le (fin false m e) top ≡ le bottom (fin true m e)
+  unfolding lt
+  mirror m e = le-not-lt top (fin false m e) refl refl ∙ sym (le-not-lt (fin true m e) bottom refl refl)
+
+  -- from -y to y the size is at most y
+  pub between-le : (x : Float) → le x top ≡ true → le bottom x ≡ true → le (sizeOf x) top ≡ true
+  unfolding le lt eq
+  between-le nan p q = absurd (false≢true p)
+  between-le (inf true) p q = absurd (false≢true q)
+  between-le (inf false) p q = absurd (false≢true p)
+  between-le (fin true m e) p q = mirror m e ∙ q
+  between-le (fin false m e) p q = p
+
+  minus-below : (m : ℕ) (e : ℤ) → le (fin true m e) top ≡ true
+  unfolding lt
+  minus-below m e = le-not-lt top (fin true m e) refl refl
+
+  plus-above : (m : ℕ) (e : ℤ) → le bottom (fin false m e) ≡ true
+  unfolding lt
+  plus-above m e = le-not-lt (fin false m e) bottom refl refl
+
+  -- and the other way round, of a number
+  pub le-between : (x : Float) → finite x ≡ true → le (sizeOf x) top ≡ true → (le x top ≡ true) × (le bottom x ≡ true)
+  le-between nan f h = absurd (false≢true f)
+  le-between (inf s) f h = absurd (false≢true f)
+  le-between (fin true m e) f h = (minus-below m e, sym (mirror m e) ∙ h)
+  le-between (fin false m e) f h = (h, plus-above m e)

@@ -1,5 +1,6 @@
 // What the rest asks of a double: its size, whether it is finite, its whole part with what is left over, and a product with a sum.
 ghost use mathlib.Core.Path.{_≡_};
+ghost use mathlib.Core.Bool.{true};
 ghost use Prim.Native.Nat.{_-_, _^_};
 ghost use Rattle.double.specs.Double.{finite, sizeOf, partsOf, mulAdd};
 ghost use Rattle.double.specs.Sizes.{Upto};
@@ -20,11 +21,19 @@ pub fn size(x: f64) -> f64
     f64::from_bits(f64::to_bits(x) % 0x8000_0000_0000_0000)
 }
 
-// Whether x is neither a NaN nor an infinity: its size is below infinity.
+// |x| of a number that is known to be finite: nothing is asked about a NaN. Public for the rounding of plane points.
+pub fn magnitude(x: f64) -> f64
+    requires { ⌜ finite x ≡ true ⌝ }
+    ensures { λ r. ⌜ r ≡ sizeOf x ⌝ }
+{
+    f64::from_bits(f64::to_bits(x) % 0x8000_0000_0000_0000)
+}
+
+// Whether x is neither a NaN nor an infinity: it lies between the two infinities.
 pub fn is_finite(x: f64) -> bool
     ensures { λ r. ⌜ r ≡ finite x ⌝ }
 {
-    size(x) < 1.0 / 0.0
+    (x < 1.0 / 0.0) & (-1.0 / 0.0 < x)
 }
 
 // Whole part and leftover together. Public for the rounding of plane points, which tests the size before.

@@ -1,8 +1,9 @@
 -- A batch. Document 01: "rows of four 32-bit signed numbers, beginning at a row that the caller names: face, i, j, k; or, for a refused row,
 -- minus the refusal, 0, 0, 0. It returns how many of its rows were refused. All other rows keep their contents."
+use mathlib.Core.Path.{_≡_}
 use mathlib.Core.Bool.{Bool, not, _||_}
 use mathlib.Core.List.{List, [], _∷_}
-use Prim.Native.Nat.{ℕ, _+_, _*_, _/_, _%_}
+use Prim.Native.Nat.{ℕ, _+_, _*_, _/_, _%_, _<_}
 use lib.IntN.{ℤ, pos, negℤ}
 use lib.Dec.{ltb, eqb}
 use lib.ListN.{length}
@@ -13,13 +14,14 @@ use Rattle.reply.specs.declared.Verdict.the-variants.{Fine, Refused as Found}
 use Rattle.reply.specs.declared.Refusal.the-variants.{BadFrame, BadRows, BadLevel}
 use Rattle.reply.specs.Replies.{Reply, Reason, when, first, answer, refusal, reply, zeros}
 use Rattle.level.specs.Levels.{badCell}
+use Rattle.vec3d.specs.Vectors.{vectorVerdict}
 use Rattle.vec3d.specs.Frame.{vecAt, badFrame}
 use Rattle.faceijk.specs.Places.{Okay}
 use Rattle.locate.specs.declared.Row.{Row}
 use Rattle.locate.specs.declared.Located.{Located}
 use Rattle.locate.specs.declared.Located.the-variants.{Done, Refused}
 use Rattle.locate.specs.declared.Batch.{Batch}
-use Rattle.locate.specs.Locating.{rowReply}
+use Rattle.locate.specs.Locating.{nearFace, rowReply}
 use Rattle.locate.specs.Rows.{rowsTo, countTo, between}
 
 abbrev pub signed : List ℕ → List ℤ
@@ -42,6 +44,10 @@ rowAt s l input k = rowOf (rowReply s l (vecAt input (3 * k)))
 
 abbrev pub refusedAt : List Float → ℕ → List Float → ℕ → Bool
 refusedAt s l input k = isRefused (rowReply s l (vecAt input (3 * k)))
+
+-- what the code finds one row early: of a vector k of the input that passes, its nearest face
+abbrev pub Ahead : List Float → List Float → ℕ → ℕ → Type 0
+Ahead s input k face = k < length input / 3 → vectorVerdict (vecAt input (3 * k)) ≡ Fine → face ≡ nearFace s (vecAt input (3 * k))
 
 -- BadRows: input not a multiple of 3, output not of 4, or first row + n beyond the rows
 unfoldable pub badRows : ℕ → ℕ → ℕ → Bool

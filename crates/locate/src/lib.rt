@@ -1,14 +1,18 @@
 // The place of a unit vector at a cell level, `FaceIJK::from_vec3d` of the source: one vector, or a whole batch into lent rows.
 ghost use mathlib.Core.Path.{_≡_};
+ghost use mathlib.Core.Bool.{false};
 ghost use Prim.Native.Nat.{_+_, _*_, _/_, _≤_};
 ghost use lib.ListN.{length};
 ghost use lib.Seq.{sets};
 ghost use Rattle.reply.specs.Replies.{first, refusal, reply};
+ghost use Rattle.reply.specs.declared.Verdict.the-variants.{Fine};
+ghost use Rattle.vec3d.specs.Vectors.{vectorVerdict};
+ghost use Rattle.vec3d.specs.Frame.{badFrame};
 ghost use Rattle.vec2d.specs.Rounding.{roundVerdict, nearestOf};
 ghost use Rattle.faceijk.specs.Places.{place, placeValues, Okay};
-ghost use Rattle.locate.specs.Locating.{Passed, Entered, placeOf, frontReasons, saidLocated, rowReply, locateReply};
+ghost use Rattle.locate.specs.Locating.{nearFace, Passed, Entered, placeOf, frontReasons, saidLocated, rowReply, locateReply};
 ghost use Rattle.locate.specs.Rows.{oneIf, countTo, Filled};
-ghost use Rattle.locate.specs.Batch.{signed, isRefused, rowOf, cells, rowAt, refusedAt, badRows, reasonsFor, saidBatch, batchOutcome, Given};
+ghost use Rattle.locate.specs.Batch.{signed, isRefused, rowOf, cells, Ahead, rowAt, refusedAt, badRows, reasonsFor, saidBatch, batchOutcome, Given};
 use faceijk::Place;
 use level::CellLevel;
 use reply::Refusal;
@@ -53,12 +57,11 @@ fn rounded(face: u32, point: Vec2d) -> Located
     }
 }
 
-// The place of a vector that has passed, on its nearest face.
-fn on_nearest(frame: &[f64], level: u32, p: Vec3d) -> Located
-    requires { ⌜ Entered (now frame) level p ⌝ }
+// The place of a vector that has passed, on its nearest face, which the caller has found.
+fn on_nearest(frame: &[f64], level: u32, face: u32, p: Vec3d) -> Located
+    requires { ⌜ Entered (now frame) level p × (face ≡ nearFace (now frame) p) ⌝ }
     ensures { λ r. ⌜ saidLocated r ≡ reply 4 (first (frontReasons (now (frame .entry)) level p)) (placeValues (placeOf (now (frame .entry)) level p)) ⌝ }
 {
-    let face = vec3d::nearest_of(frame, p).face;
     let answer = face_projection::project(vec3d::face_at(frame, face), level, p);
     match answer {
         Pointed::Done(point) => rounded(face, point),
@@ -66,16 +69,17 @@ fn on_nearest(frame: &[f64], level: u32, p: Vec3d) -> Located
     }
 }
 
-// The place of any vector, with a frame and a level that have passed. Its parts stand apart, so that they come in registers: a vector read back from
+// The place of any vector, with a frame and a level that have passed and the face nearest to it. Its parts stand apart, so that they come in registers: a vector read back from
 // memory at once costs a tenth more.
-fn place_of(frame: &[f64], level: u32, x: f64, y: f64, z: f64) -> Located
-    requires { ⌜ Passed (now frame) level ⌝ }
+fn place_of(frame: &[f64], level: u32, face: u32, x: f64, y: f64, z: f64) -> Located
+    requires { ⌜ Passed (now frame) level ×
+        (vectorVerdict (record { x = x; y = y; z = z }) ≡ Fine → face ≡ nearFace (now frame) (record { x = x; y = y; z = z })) ⌝ }
     ensures { λ r. ⌜ saidLocated r ≡ rowReply (now (frame .entry)) level (record { x = x; y = y; z = z }) ⌝ }
 {
     let p = Vec3d::new(x, y, z);
     let verdict = p.verdict();
     match verdict {
-        Verdict::Fine => on_nearest(frame, level, p),
+        Verdict::Fine => on_nearest(frame, level, face, p),
         Verdict::Refused(refusal) => Located::Refused(refusal),
     }
 }
@@ -91,7 +95,8 @@ pub fn locate(frame: &[f64], level: CellLevel, p: Vec3d) -> Located
     if CellLevel::FINEST < asked {
         return Located::Refused(Refusal::BadLevel);
     }
-    place_of(frame, asked, p.x, p.y, p.z)
+    let face = vec3d::nearest_of(frame, p).face;
+    place_of(frame, asked, face, p.x, p.y, p.z)
 }
 
 impl Row {
@@ -156,7 +161,19 @@ fn put_row(out: &mut [i32], at: usize, row: Row)
     out[at + 3] = k;
 }
 
-// Fills the first rows of the lent part, one for each vector of the input, and counts those refused.
+// The face nearest to vector k, or 0 after the last.
+fn face_ahead(frame: &[f64], input: &[f64], k: usize) -> u32
+    requires { ⌜ badFrame (now frame) ≡ false ⌝ }
+    ensures { λ r. ⌜ Ahead (now (frame .entry)) (now (input .entry)) k r ⌝ }
+{
+    if k < input.len() / 3 {
+        return vec3d::nearest_of(frame, vec3d::vec_at(input, 3 * k)).face;
+    }
+    0
+}
+
+// Fills the first rows of the lent part, one for each vector of the input, and counts those refused. The face of the next vector is looked for before
+// this one is placed: neither waits for the other, so the processor works at both at once.
 fn write_rows(frame: &[f64], level: u32, input: &[f64], out: &mut [i32]) -> usize
     requires { ⌜ Passed (now frame) level × (4 * (length (now input) / 3) ≤ length (now out)) ⌝ }
     ensures { λ r. ⌜ (r ≡ countTo (refusedAt (now (frame .entry)) level (now (input .entry))) (length (now (input .entry)) / 3)) ×
@@ -165,9 +182,12 @@ fn write_rows(frame: &[f64], level: u32, input: &[f64], out: &mut [i32]) -> usiz
     let n = input.len() / 3;
     let mut refused = 0usize;
     let mut k = 0usize;
+    let mut ahead = face_ahead(frame, input, 0);
     while k < n {
+        let face = ahead;
+        ahead = face_ahead(frame, input, k + 1);
         let p = vec3d::vec_at(input, 3 * k);
-        let located = place_of(frame, level, p.x, p.y, p.z);
+        let located = place_of(frame, level, face, p.x, p.y, p.z);
         put_row(out, 4 * k, Row::of(located));
         refused += refusals_in(located);
         k += 1;

@@ -1,19 +1,19 @@
 -- What is known of a point that rounding accepts: its parts are below 2^25 in size, and both of its coordinates can be split. Assumes nothing.
-use mathlib.Core.Path.{_≡_, refl, ap, _∙_}
+use mathlib.Core.Path.{_≡_, refl, sym, ap, _∙_}
 use mathlib.Core.Bool.{Bool, true, false, not, _&&_, true≢false}
 use Prim.Native.Nat.{_-_, _^_, _≤_, _<_}
 use native.Mathlib.Omega.{arith}
 use lib.Dec.{lit≤}
-use lib.Ieee.{Float, nan, inf, fin, binary64, ofBits, div, le}
+use lib.Ieee.{Float, nan, inf, fin, binary64, ofBits, div, lt, le}
 use Rattle.reply.specs.declared.Verdict.the-variants.{Fine}
 use Rattle.reply.proofs.Entries.{passed, neither}
 use Rattle.double.specs.Double.{finite, sizeOf, wholeOf, limit, rsin60, two}
 use Rattle.double.specs.Sizes.{Under, Upto}
 use Rattle.double.proofs.Nonnegative.{upto-le, size-upto, product-upto, add-upto, halved-upto, rsin60-upto, whole-le}
-use Rattle.double.proofs.Tests.{lt-under, lt-not-le, limit-value}
+use Rattle.double.proofs.Tests.{lt-under, lt-not-le, limit-value, between-lt}
 use Rattle.vec2d.specs.declared.Vec2d.{Vec2d}
 use Rattle.vec2d.specs.Points.{isPoint}
-use Rattle.vec2d.specs.Rounding.{tooFar, roundVerdict, Near, x1Of, x2Of}
+use Rattle.vec2d.specs.Rounding.{tooFar, minusLimit, inside, roundVerdict, Near, x1Of, x2Of}
 
 -- ---- the two tests
 
@@ -40,6 +40,31 @@ accepted v e =
     let f = both (finite (v .x)) (finite (v .y)) (p .0) in
     let n = neither (le limit (sizeOf (v .x))) (le limit (sizeOf (v .y))) (q .0) in
     record { x = part-near (v .x) (f .0) (n .0); y = part-near (v .y) (f .1) (n .1) }
+
+-- A part between -2^25 and 2^25 is finite and not too far.
+part-inside : (x : Float) → lt x limit ≡ true → lt minusLimit x ≡ true → (finite x ≡ true) × (le limit (sizeOf x) ≡ false)
+unfolding ofBits
+part-inside x p q =
+    let b = between-lt _ _ x p q in
+    (b .0, not-true _ (sym (lt-not-le (sizeOf x) limit (size-finite x (b .0)) refl) ∙ b .1))
+  where
+    not-true : (b : Bool) → not b ≡ true → b ≡ false
+    not-true true e = sym e
+    not-true false e = refl
+
+pub inside-fine : (v : Vec2d) → inside v ≡ true → roundVerdict v ≡ Fine
+unfolding inside isPoint tooFar
+inside-fine v e =
+    let a = each _ _ e in
+    let b = each _ _ (a .0) in
+    let c = each _ _ (b .0) in
+    let x = part-inside (v .x) (c .0) (c .1) in
+    let y = part-inside (v .y) (b .1) (a .1) in
+    rw (x .0, y .0, x .1, y .1)
+  where
+    each : (a b : Bool) → (a && b) ≡ true → (a ≡ true) × (b ≡ true)
+    each true b e = (refl, e)
+    each false b e = absurd (true≢false (sym e))
 
 -- ---- the two coordinates: 38745321 is 2^25 · 1.1547005383792515, rounded up
 

@@ -108,3 +108,41 @@ folded true true i j =
     ap (λ (z : ℤ). reducedZ z (negℤ (pos j)) (pos 0)) (ap (λ (z : ℤ). downFold z (pos j)) (left-is i j) ∙ down-is j i j)
     ∙ ap (λ (z : ℤ). reducedZ (pos j -ℤ pos (i + j)) z (pos 0)) (sym (from-nought j) ∙ same 0 j i (i + j) (omega arith))
     ∙ raise j i (i + j)
+
+-- ---- reducing a lifted triple, without a branch: the lesser of i and j goes, and the greater stays
+
+abbrev lesser : ℕ → ℕ → ℕ
+lesser i j = pick (leb i j) i j
+
+pub lesser-first : (i j : ℕ) → lesser i j ≤ i
+lesser-first i j = go (leb i j) (nleb→lt i j)
+  where
+    go : (t : Bool) → (T (not t) → j < i) → pick t i j ≤ i
+    go true g = omega arith
+    go false g = omega (arith, g tt)
+
+pub lesser-second : (i j : ℕ) → lesser i j ≤ j
+lesser-second i j = go (leb i j) (leb→le i j)
+  where
+    go : (t : Bool) → (T t → i ≤ j) → pick t i j ≤ j
+    go true f = omega (arith, f tt)
+    go false f = omega arith
+
+pub flattened : (l d : Bool) (i j : ℕ) →
+    let less = pick (leb i j) i j in
+    let second = pick l (pick (leb i j) j i) j in
+    let third = pick l (i - less) 0 in
+    coord (pick l (j - less) i) (pick d third second) (pick d second third) ≡ liftedOf l d i j
+flattened l d i j = go l d (leb i j) (leb→le i j) (nleb→lt i j)
+  where
+    go : (l d t : Bool) → (T t → i ≤ j) → (T (not t) → j < i) →
+        let less = pick t i j in
+        let second = pick l (pick t j i) j in
+        let third = pick l (i - less) 0 in
+        coord (pick l (j - less) i) (pick d third second) (pick d second third) ≡ liftedOf l d i j
+    go false false t f g = red i j 0 i j 0 (omega arith) (omega arith) (omega arith)
+    go false true t f g = red i 0 j i 0 j (omega arith) (omega arith) (omega arith)
+    go true false true f g = let h = f tt in red j (j + i) i (j - i) j (i - i) (omega arith) (omega arith) (omega arith)
+    go true false false f g = let h = g tt in red j (j + i) i (j - j) i (i - j) (omega arith) (omega arith) (omega arith)
+    go true true true f g = let h = f tt in red j i (i + j) (j - i) (i - i) j (omega arith) (omega arith) (omega arith)
+    go true true false f g = let h = g tt in red j i (i + j) (j - j) (i - j) i (omega arith) (omega arith) (omega arith)

@@ -4,7 +4,7 @@ use mathlib.Core.List.{List, [], _∷_}
 use Prim.Native.Nat.{ℕ, _+_, _^_}
 use lib.IntN.{ℤ, pos, negℤ, natAbs, _+ℤ_, _-ℤ_, _*ℤ_}
 use lib.Signed.{leZ, quotZ, remZ}
-use lib.Ieee.{Float, binary64, add, sub, mul, div, lt, le}
+use lib.Ieee.{Float, binary64, ofBits, add, sub, mul, div, lt, le}
 use Rattle.reply.specs.Choice.{pick}
 use Rattle.reply.specs.declared.Verdict.{Verdict}
 use Rattle.reply.specs.declared.Refusal.the-variants.{BadNumber, TooFar}
@@ -23,6 +23,13 @@ use Rattle.vec2d.specs.Points.{isPoint}
 -- TooFar: size of x or y is 2^25 or more
 unfoldable pub tooFar : Vec2d → Bool
 tooFar v = le limit (sizeOf (v .x)) || le limit (sizeOf (v .y))
+
+-- both parts between -2^25 and 2^25, as the code asks it first: neither BadNumber nor TooFar
+abbrev pub minusLimit : Float
+minusLimit = ofBits binary64 0xc180_0000_0000_0000
+
+unfoldable pub inside : Vec2d → Bool
+inside v = lt (v .x) limit && lt minusLimit (v .x) && lt (v .y) limit && lt minusLimit (v .y)
 
 abbrev pub roundReasons : Vec2d → List Reason
 roundReasons v = when (not (isPoint v)) BadNumber ∷ when (tooFar v) TooFar ∷ []

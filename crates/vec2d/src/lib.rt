@@ -1,8 +1,9 @@
 // Plane points, `Vec2d` of the source: rounding to a hexagon, the centre of a hexagon, where two lines meet, and near-equality.
 ghost use mathlib.Core.Path.{_≡_};
 ghost use Prim.Native.Nat.{_≤_, _<_, _^_};
+ghost use Rattle.reply.specs.Choice.{pick};
 ghost use Rattle.vec2d.specs.Points.{point, isPoint, saidPointed};
-ghost use Rattle.vec2d.specs.Rounding.{tooFar, roundVerdict, Near, quantizedOf, stepsOf, raisedBy, foldOf, nearestOf, saidRounded, roundReply};
+ghost use Rattle.vec2d.specs.Rounding.{tooFar, inside, roundVerdict, Near, quantizedOf, stepsOf, raisedBy, foldOf, nearestOf, saidRounded, roundReply};
 ghost use Rattle.vec2d.specs.Centre.{centreOf, centreReply};
 ghost use Rattle.vec2d.specs.Meeting.{along, divisorOf, shareOf, reachedOf, crossingOf, metOf, isLine, meetReply};
 ghost use Rattle.vec2d.specs.Closeness.{within, close, saidAlike, alikeReply};
@@ -63,34 +64,28 @@ pub struct Crossing {
     pub at: Vec2d,
 }
 
-// The branches in the source's order: a choice by the two leftovers alone.
+// The branches in the source's order, a choice by the two leftovers alone, as sums of tests: no branch is taken, so none is guessed wrong.
 fn chosen(r1: f64, r2: f64) -> Steps
     ensures { λ r. ⌜ r ≡ stepsOf r1 r2 ⌝ }
 {
     let rest = 1.0 - r1;
-    if r1 < 0.5 {
-        if r1 < 1.0 / 3.0 {
-            Steps {
-                i: false,
-                j: r2 >= (1.0 + r1) / 2.0,
-            }
-        } else {
-            Steps {
-                i: (rest <= r2) & (r2 < 2.0 * r1),
-                j: r2 >= rest,
-            }
-        }
-    } else if r1 < 2.0 / 3.0 {
-        Steps {
-            i: (2.0 * r1 - 1.0 >= r2) | (r2 >= rest),
-            j: r2 >= rest,
-        }
-    } else {
-        Steps {
-            i: true,
-            j: r2 >= r1 / 2.0,
-        }
+    let half = r1 < 0.5;
+    let low = r1 < 1.0 / 3.0;
+    let third = r1 < 2.0 / 3.0;
+    let past = r2 >= rest;
+    Steps {
+        i: (half & !low & past & (r2 < 2.0 * r1))
+            | (!half & (!third | past | (2.0 * r1 - 1.0 >= r2))),
+        j: (half & ((low & (r2 >= (1.0 + r1) / 2.0)) | (!low & past)))
+            | (!half & ((third & past) | (!third & (r2 >= r1 / 2.0)))),
     }
+}
+
+// One of two numbers.
+fn either(yes: bool, a: u32, b: u32) -> u32
+    ensures { λ r. ⌜ r ≡ pick yes a b ⌝ }
+{
+    if yes { a } else { b }
 }
 
 // m, or the next number where `up` says so.
@@ -103,31 +98,25 @@ fn raised(m: u32, up: bool) -> u32
 }
 
 impl Axial {
-    // The folds for x < 0 and y < 0 in the source's form, then reducing. Where the source has a number below zero, one number is added to all three
-    // coordinates first: reducing takes it off again.
+    // The folds for x < 0 and y < 0 and then reducing, as what they come to: x < 0 sends i, j, 0 to j - i, j, 0, which reducing lifts by i where i is
+    // above j; y < 0 exchanges the last two. One of two numbers each time, so that no branch is guessed wrong.
     fn fold(self, left: bool, down: bool) -> CoordIJK
         requires { ⌜ (self .i ≤ 2 ^ 26) × (self .j ≤ 2 ^ 26) ⌝ }
         ensures { λ r. ⌜ r ≡ foldOf left down (self .i) (self .j) ⌝ }
     {
         let i = self.i;
         let j = self.j;
-        if left {
-            // i - (2 * (i - axis) + offset), and i added to all three
-            let offset = j % 2;
-            let axis = (j + offset) / 2;
-            let first = 2 * axis - offset;
-            if down {
-                // first - i - (2 * j + 1) / 2 and -j, and i + j added to all three
-                CoordIJK::new(first + j - (2 * j + 1) / 2, i, i + j).reduce()
-            } else {
-                CoordIJK::new(first, j + i, i).reduce()
-            }
-        } else if down {
-            // i - (2 * j + 1) / 2 and -j, and j added to all three
-            CoordIJK::new(i + j - (2 * j + 1) / 2, 0, j).reduce()
-        } else {
-            CoordIJK::new(i, j, 0).reduce()
-        }
+        let under = i <= j;
+        let least = either(under, i, j);
+        let most = either(under, j, i);
+        let first = either(left, j - least, i);
+        let second = either(left, most, j);
+        let third = either(left, i - least, 0);
+        CoordIJK::new(
+            first,
+            either(down, third, second),
+            either(down, second, third),
+        )
     }
 }
 
@@ -161,9 +150,22 @@ impl Vec2d {
         (double::size(self.x) >= Vec2d::LIMIT) | (double::size(self.y) >= Vec2d::LIMIT)
     }
 
+    // Whether both parts lie between -2^25 and 2^25: such a point is finite too, and is taken.
+    fn is_inside(self) -> bool
+        ensures { λ r. ⌜ r ≡ inside self ⌝ }
+    {
+        (self.x < Vec2d::LIMIT)
+            & (-Vec2d::LIMIT < self.x)
+            & (self.y < Vec2d::LIMIT)
+            & (-Vec2d::LIMIT < self.y)
+    }
+
     fn verdict(self) -> Verdict
         ensures { λ r. ⌜ r ≡ roundVerdict self ⌝ }
     {
+        if self.is_inside() {
+            return Verdict::Fine;
+        }
         let bad = !self.is_point();
         let far = self.is_far();
         if bad {
@@ -181,8 +183,8 @@ impl Vec2d {
         ensures quantizes { λ r. ⌜ r ≡ quantizedOf self ⌝ }
         ensures bounded { λ r. ⌜ (r .m1 < 2 ^ 26) × (r .m2 < 2 ^ 26) ⌝ }
     {
-        let x2 = double::size(self.y) * Vec2d::RSIN60;
-        let x1 = double::size(self.x) + x2 / 2.0;
+        let x2 = double::magnitude(self.y) * Vec2d::RSIN60;
+        let x1 = double::magnitude(self.x) + x2 / 2.0;
         let first = double::split(x1);
         let second = double::split(x2);
         Quantized {

@@ -1,19 +1,23 @@
 -- What the nearest of the faces 0 .. f is: one of them, none is strictly nearer, and each lower one is strictly farther. Assumes nothing.
-use mathlib.Core.Path.{_≡_, refl, sym, ap, subst}
+use mathlib.Core.Path.{_≡_, refl, sym, ap, subst, _∙_}
 use mathlib.Core.Bool.{Bool, true, false}
 use mathlib.Core.Logic.{⊎-elim}
 use mathlib.Core.List.{List}
-use Prim.Native.Nat.{ℕ, zero, suc, _≤_, _<_, zero-le}
+use Prim.Native.Nat.{ℕ, zero, suc, _+_, _≤_, _<_, zero-le}
+use native.Mathlib.Numerals.{add-one}
 use native.Mathlib.Nat.{le-refl, le-suc, le-trans, le-of-suc-le-suc, eq-or-lt-of-le, not-suc-le-zero}
 use native.Mathlib.Omega.{arith}
 use lib.Ieee.{Float, lt}
 use Rattle.reply.specs.Choice.{pick}
+use Rattle.reply.specs.declared.Verdict.the-variants.{Fine}
+use Rattle.reply.specs.declared.Refusal.the-variants.{BadNumber, OffSphere}
+use Rattle.reply.proofs.Entries.{passed}
 use Rattle.double.specs.Double.{finite}
 use Rattle.vec3d.specs.declared.Vec3d.{Vec3d}
 use Rattle.vec3d.specs.declared.Nearest.{Nearest}
-use Rattle.vec3d.specs.Vectors.{badNumber, offSphere}
+use Rattle.vec3d.specs.Vectors.{badNumber, offSphere, vectorVerdict}
 use Rattle.vec3d.specs.Frame.{badFrame}
-use Rattle.vec3d.specs.Nearest.{distanceOf, closerOf, nearestTo}
+use Rattle.vec3d.specs.Nearest.{distanceOf, closerOf, pairOf, nearestTo}
 use Rattle.vec3d.proofs.Sizes.{distance-under}
 use Rattle.vec3d.proofs.Comparing.{below-all, not-both, not-itself}
 
@@ -86,3 +90,60 @@ wins s p (suc f) known = closer-wins (distanceOf s p) f known (nearestTo s p f) 
 -- With a frame and a vector that pass, no face is strictly nearer than the one named, and each lower face is strictly farther.
 pub nearest-wins : (s : List Float) (p : Vec3d) → badFrame s ≡ false → badNumber p ≡ false → offSphere p ≡ false → Wins (distanceOf s p) 19 (nearestTo s p 19)
 nearest-wins s p e b o = wins s p 19 (λ k h. distance-under s p k e b o (omega arith) .number)
+
+-- ---- two faces at a time
+
+module _ (a b c : Float) (A : finite a ≡ true) (B : finite b ≡ true) (C : finite c ≡ true) where
+  lt-trans : lt b a ≡ true → lt a c ≡ true → lt b c ≡ true
+  lt-trans e h = below-all b a c B A C e (not-both a c A C h)
+
+  not-lt-trans : lt b a ≡ false → lt a c ≡ false → lt b c ≡ false
+  not-lt-trans e h = go (lt b c) refl
+    where
+      go : (t : Bool) → lt b c ≡ t → t ≡ false
+      go true k = sym (below-all b c a B C A k h) ∙ e
+      go false k = refl
+
+-- The nearer one of two faces against the best so far is one after the other.
+module _ (best : Nearest) (f g : ℕ) (d e : Float) (D : finite d ≡ true) (E : finite e ≡ true) (B : finite (best .distance) ≡ true) where
+  abbrev first : Nearest
+  first = record { face = f; distance = d }
+
+  abbrev second : Nearest
+  second = record { face = g; distance = e }
+
+  tournament : closerOf best (closerOf first g e .face) (closerOf first g e .distance) ≡ closerOf (closerOf best f d) g e
+  unfolding closerOf
+  tournament = go (lt d (best .distance)) (lt e d) refl refl
+    where
+      go : (x y : Bool) → lt d (best .distance) ≡ x → lt e d ≡ y
+          → pick (lt (pick y second first .distance) (best .distance)) (record { face = pick y second first .face; distance = pick y second first .distance }) best
+          ≡ pick (lt e (pick x first best .distance)) second (pick x first best)
+      go true true p q = rw (lt-trans d e (best .distance) D E B q p, q)
+      go true false p q = rw (p, q)
+      go false true p q = refl
+      go false false p q = rw (p, not-lt-trans d e (best .distance) D E B q p)
+
+pub first-pair : (s : List Float) (p : Vec3d) → pairOf s p 0 ≡ nearestTo s p 1
+unfolding pairOf nearestTo
+first-pair s p = refl
+
+module _ (s : List Float) (p : Vec3d) (frame : badFrame s ≡ false) (fine : vectorVerdict p ≡ Fine) where
+  known : (k : ℕ) → k < 20 → finite (distanceOf s p k) ≡ true
+  known k h =
+      let n = passed (badNumber p) BadNumber _ fine in
+      let o = passed (offSphere p) OffSphere _ (n .1) in
+      distance-under s p k frame (n .0) (o .0) h .number
+
+  best-known : (f : ℕ) → f < 20 → finite (nearestTo s p f .distance) ≡ true
+  best-known f h =
+      let w = wins s p f (λ k l. known k (omega arith)) in
+      subst (λ (x : Float). finite x ≡ true) (sym (w .own)) (known (nearestTo s p f .face) (omega (arith, w .within)))
+
+  pub by-pairs : (f : ℕ) (best : Nearest) → f + 2 < 20 → best ≡ nearestTo s p f
+      → closerOf best (pairOf s p (f + 1) .face) (pairOf s p (f + 1) .distance) ≡ nearestTo s p (f + 1 + 1)
+  unfolding pairOf nearestTo
+  by-pairs f best h e =
+      rw (e, add-one, add-one)
+      (tournament (nearestTo s p f) (suc f) (suc (suc f)) (distanceOf s p (suc f)) (distanceOf s p (suc (suc f))) (known (suc f) (omega arith)) (known (suc (suc f)) (omega arith))
+      (best-known f (omega arith)))

@@ -10,9 +10,9 @@ use lib.Ieee.{Float, nan, inf, fin, binary64, ofBits, add, mul, lt, eq, le}
 use borrow.Author.Tests.{not-false}
 use Rattle.reply.proofs.Entries.{neither}
 use Rattle.double.specs.Double.{finite, sizeOf, mulAdd, three, sphereLow, sphereHigh}
-use Rattle.double.proofs.Tests.{lt-not-le}
+use Rattle.double.proofs.Tests.{lt-not-le, between-le, le-between}
 use Rattle.vec3d.specs.declared.Vec3d.{Vec3d}
-use Rattle.vec3d.specs.Vectors.{dotOf, badNumber, offSphere, wide, loose}
+use Rattle.vec3d.specs.Vectors.{dotOf, badNumber, offSphere, wide, narrow, loose}
 use Rattle.vec3d.specs.Frame.{vecAt, someBelow, nonFinite, badAxes, unfit}
 use Rattle.vec3d.proofs.Passing.{none-at}
 
@@ -39,13 +39,21 @@ unfolding ofBits
 three-finite = refl
 
 -- a part within 3 is finite and not above 3, and the other way round
-within : (x : Float) → le (sizeOf x) three ≡ true → (finite x ≡ true) × (lt three (sizeOf x) ≡ false)
-within x e =
-    let f = le-finite x three three-finite e in
-    (f, lt-not-le three (sizeOf x) three-finite (size-finite x f) ∙ ap not e)
+narrow-size : (x : Float) → narrow x ≡ true → le (sizeOf x) three ≡ true
+unfolding narrow ofBits
+narrow-size x e = let b = both _ _ e in between-le _ _ x (b .0) (b .1)
 
-not-above : (x : Float) → finite x ≡ true → lt three (sizeOf x) ≡ false → le (sizeOf x) three ≡ true
-not-above x f e = not-false _ (sym (lt-not-le three (sizeOf x) three-finite (size-finite x f)) ∙ e)
+size-narrow : (x : Float) → finite x ≡ true → le (sizeOf x) three ≡ true → narrow x ≡ true
+unfolding narrow ofBits
+size-narrow x f e = let b = le-between _ _ x f e in rw (b .0, b .1)
+
+within : (x : Float) → narrow x ≡ true → (finite x ≡ true) × (lt three (sizeOf x) ≡ false)
+within x e =
+    let f = le-finite x three three-finite (narrow-size x e) in
+    (f, lt-not-le three (sizeOf x) three-finite (size-finite x f) ∙ ap not (narrow-size x e))
+
+not-above : (x : Float) → finite x ≡ true → lt three (sizeOf x) ≡ false → narrow x ≡ true
+not-above x f e = size-narrow x f (not-false _ (sym (lt-not-le three (sizeOf x) three-finite (size-finite x f)) ∙ e))
 
 -- an axis that is not loose
 tight : (v : Vec3d) → loose v ≡ false → (badNumber v ≡ false) × (wide v ≡ false)
@@ -113,7 +121,7 @@ unfolding ofBits
 high-finite = refl
 
 -- a vector on the sphere has finite parts
-on-sphere : (v : Vec3d) → offSphere v ≡ false → badNumber v ≡ false
+pub on-sphere : (v : Vec3d) → offSphere v ≡ false → badNumber v ≡ false
 unfolding offSphere dotOf mulAdd badNumber
 on-sphere v e =
     let d = between-finite sphereLow _ sphereHigh low-finite high-finite (not-false _ e) in

@@ -21,6 +21,10 @@ distanceOf s p f = dotOf (minusOf p (faceAt s f .centre)) (minusOf p (faceAt s f
 unfoldable pub closerOf : Nearest → ℕ → Float → Nearest
 closerOf best f d = pick (lt d (best .distance)) (record { face = f; distance = d }) best
 
+-- the nearer one of a face and the next, as the code asks it
+unfoldable pub pairOf : List Float → Vec3d → ℕ → Nearest
+pairOf s p f = closerOf (record { face = f; distance = distanceOf s p f }) (suc f) (distanceOf s p (suc f))
+
 -- the nearest of the faces 0 .. f
 unfoldable pub nearestTo : List Float → Vec3d → ℕ → Nearest
 nearestTo s p zero = record { face = 0; distance = distanceOf s p 0 }

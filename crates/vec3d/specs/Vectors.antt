@@ -1,7 +1,7 @@
 -- Unit vectors of document 01: the dot product, and which vectors are taken.
 use mathlib.Core.Bool.{Bool, not, _&&_, _||_}
 use mathlib.Core.List.{List, [], _∷_}
-use lib.Ieee.{Float, binary64, sub, mul, le, lt}
+use lib.Ieee.{Float, binary64, ofBits, sub, mul, le, lt}
 use Rattle.reply.specs.declared.Verdict.{Verdict}
 use Rattle.reply.specs.declared.Refusal.the-variants.{BadNumber, OffSphere}
 use Rattle.reply.specs.Replies.{Reason, when, first}
@@ -27,9 +27,16 @@ offSphere v = not (le sphereLow (dotOf v v) && le (dotOf v v) sphereHigh)
 unfoldable pub wide : Vec3d → Bool
 wide v = lt three (sizeOf (v .x)) || lt three (sizeOf (v .y)) || lt three (sizeOf (v .z))
 
+-- from -3 to 3, as the code asks it: at most 3 in size and no NaN
+abbrev pub minusThree : Float
+minusThree = ofBits binary64 0xc008_0000_0000_0000
+
+unfoldable pub narrow : Float → Bool
+narrow x = le x three && le minusThree x
+
 -- the same in one test with a part that is no finite number, as the code asks it: a part not within 3 in size
 unfoldable pub loose : Vec3d → Bool
-loose v = not ((le (sizeOf (v .x)) three && le (sizeOf (v .y)) three) && le (sizeOf (v .z)) three)
+loose v = not (narrow (v .x) && narrow (v .y) && narrow (v .z))
 
 abbrev pub vectorReasons : Vec3d → List Reason
 vectorReasons v = when (badNumber v) BadNumber ∷ when (offSphere v) OffSphere ∷ []

@@ -3,9 +3,10 @@ ghost use mathlib.Core.Path.{_≡_};
 ghost use mathlib.Core.Bool.{false};
 ghost use Prim.Native.Nat.{_+_, _*_, _≤_, _<_};
 ghost use lib.ListN.{length};
-ghost use Rattle.vec3d.specs.Vectors.{dotOf, minusOf, badNumber, offSphere, loose, vectorVerdict};
+ghost use Rattle.reply.specs.declared.Verdict.the-variants.{Fine};
+ghost use Rattle.vec3d.specs.Vectors.{dotOf, minusOf, badNumber, offSphere, narrow, loose, vectorVerdict};
 ghost use Rattle.vec3d.specs.Frame.{vecAt, faceAt, someBelow, unfit, badFrame};
-ghost use Rattle.vec3d.specs.Nearest.{distanceOf, closerOf, nearestTo, saidNearest, nearestReply};
+ghost use Rattle.vec3d.specs.Nearest.{distanceOf, closerOf, pairOf, nearestTo, saidNearest, nearestReply};
 use reply::Refusal;
 use reply::Verdict;
 
@@ -31,6 +32,13 @@ pub struct Nearest {
 pub enum NearestFace {
     Done(Nearest),
     Refused(Refusal),
+}
+
+// Whether x is from -3 to 3, by two comparisons: a NaN is not.
+fn is_narrow(x: f64) -> bool
+    ensures { λ r. ⌜ r ≡ narrow x ⌝ }
+{
+    (x <= Vec3d::WIDEST) & (-Vec3d::WIDEST <= x)
 }
 
 impl Vec3d {
@@ -86,19 +94,17 @@ impl Vec3d {
     fn loose(self) -> bool
         ensures { λ r. ⌜ r ≡ loose self ⌝ }
     {
-        !((double::size(self.x) <= Vec3d::WIDEST)
-            & (double::size(self.y) <= Vec3d::WIDEST)
-            & (double::size(self.z) <= Vec3d::WIDEST))
+        !(is_narrow(self.x) & is_narrow(self.y) & is_narrow(self.z))
     }
 
-    // Whether this is a unit vector: a BadNumber comes before an OffSphere.
+    // Whether this is a unit vector: a BadNumber comes before an OffSphere. A vector on the sphere has no bad number, so that one test is enough for it.
     pub fn verdict(self) -> Verdict
         ensures { λ r. ⌜ r ≡ vectorVerdict self ⌝ }
     {
-        if self.bad_number() {
-            return Verdict::Refused(Refusal::BadNumber);
-        }
         if self.off_sphere() {
+            if self.bad_number() {
+                return Verdict::Refused(Refusal::BadNumber);
+            }
             return Verdict::Refused(Refusal::OffSphere);
         }
         Verdict::Fine
@@ -187,20 +193,32 @@ fn distance_to(frame: &[f64], face: u32, p: Vec3d) -> f64
     away.dot(away)
 }
 
-// The nearest face of a frame that has passed. Public for `locate`, which tests frame and vector itself.
+// The nearer one of a face and the next.
+fn pair_at(frame: &[f64], face: u32, p: Vec3d) -> Nearest
+    requires { ⌜ (face ≤ 18) × (9 * face + 18 ≤ length (now frame)) ⌝ }
+    ensures { λ r. ⌜ r ≡ pairOf (now (frame .entry)) p face ⌝ }
+{
+    let first = Nearest {
+        face,
+        distance: distance_to(frame, face, p),
+    };
+    let next = face + 1;
+    first.closer(next, distance_to(frame, next, p))
+}
+
+// The nearest face of a frame that has passed, of a vector that has. Public for `locate`, which tests frame and vector itself. Two faces are compared with
+// each other before the nearer one is compared with the best so far, which halves the comparisons that wait for one another.
 pub fn nearest_of(frame: &[f64], p: Vec3d) -> Nearest
     requires { ⌜ badFrame (now frame) ≡ false ⌝ }
-    ensures { λ r. ⌜ r ≡ nearestTo (now (frame .entry)) p 19 ⌝ }
+    ensures { λ r. ⌜ (vectorVerdict p ≡ Fine → r ≡ nearestTo (now (frame .entry)) p 19) ⌝ }
 {
-    let mut best = Nearest {
-        face: 0,
-        distance: distance_to(frame, 0, p),
-    };
-    let mut last = 0u32;
+    let mut best = pair_at(frame, 0, p);
+    let mut last = 1u32;
     while last < 19 {
         let face = last + 1;
-        best = best.closer(face, distance_to(frame, face, p));
-        last = face;
+        let pair = pair_at(frame, face, p);
+        best = best.closer(pair.face, pair.distance);
+        last = face + 1;
     }
     best
 }

@@ -70,6 +70,26 @@ fn place() {
     );
 }
 
+/// One vector a call, as a server asks it when one receiver reports.
+fn place_one() {
+    let input = uniform(MANY);
+    row(
+        "place, one vector, level 9", MANY,
+        || {
+            for &v in &input {
+                let mut out = [0u32; 4];
+                black_box(bare::place(&FRAME, v, 9, &mut out));
+                black_box(out);
+            }
+        },
+        || {
+            for &v in &input {
+                black_box(FaceIJK::from_vec3d(vec3d(v), Resolution(black_box(9))));
+            }
+        },
+    );
+}
+
 fn round() {
     let mut chance = Chance(10);
     let points: Vec<(f64, f64)> = (0..MANY).map(|_| (chance.unit() * 20000., chance.unit() * 20000.)).collect();
@@ -185,16 +205,24 @@ fn pentagons() {
     boundary("pentagon boundary, level 9", &cells, 9, 5, (bare::pentagon, plane::FaceIJK::pentagon_boundary));
 }
 
-/// Prints the table.
-pub fn run() {
+/// The table's rows in their order, each under the question's name.
+const ROWS: [(&str, fn()); 9] = [
+    ("place", place),
+    ("place", place_one),
+    ("round", round),
+    ("nearest", nearest),
+    ("settle", || settle("settling, level 10, coordinates to 2^20", 10, MANY)),
+    ("settle", || settle("settling, level 0, coordinates to 2^20", 0, 300)),
+    ("hexagon", || hexagons("hexagon boundary, level 8", 8)),
+    ("hexagon", || hexagons("hexagon boundary, level 9", 9)),
+    ("pentagon", pentagons),
+];
+
+/// Prints the table, or its rows for the questions named.
+pub fn run(names: &[String]) {
     println!("| question | ours, best (median) | Rust, best (median) | ratio of the best | of the medians |");
     println!("|---|---|---|---|---|");
-    place();
-    round();
-    nearest();
-    settle("settling, level 10, coordinates to 2^20", 10, MANY);
-    settle("settling, level 0, coordinates to 2^20", 0, 300);
-    hexagons("hexagon boundary, level 8", 8);
-    hexagons("hexagon boundary, level 9", 9);
-    pentagons();
+    for (_, timed) in ROWS.iter().filter(|row| names.is_empty() || names.iter().any(|n| n == row.0)) {
+        timed();
+    }
 }

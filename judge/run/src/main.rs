@@ -74,11 +74,12 @@ const QUESTIONS: [Question; 17] = [
 /// Where the sample of `ask_main` lies, from the top of the repository.
 const SAMPLE: &str = "crates/ask_main";
 
-/// Asks all questions, or those named; `bench` times both sides instead, and `record` writes a sample, into a folder or its own.
+/// Asks all questions, or those named; `bench` times both sides instead, of all or of those named after it, and `record` writes a
+/// sample, into a folder or its own.
 fn main() {
     let names: Vec<String> = std::env::args().skip(1).collect();
-    if names == ["bench"] {
-        return bench::run();
+    if names.first().is_some_and(|n| n == "bench") {
+        return bench::run(&names[1..]);
     }
     if names.first().is_some_and(|n| n == "record") {
         return record::run(Path::new(names.get(1).map_or(SAMPLE, String::as_str)));

@@ -17,10 +17,10 @@ returns-2 : tie.Need-returns-2
 returns-2 c = rw (framed (c .before), lt-ltb _ _ (c .if2 .taken))
 
 place-of-requires : tie.Need-place-of-requires
-place-of-requires c κs = record { frame = framed (c .before); level = c .if2 .left }
+place-of-requires c κs = (record { frame = framed (c .before .before); level = c .before .if2 .left }, λ fine. rw (c .nearest-of .ensures fine))
 
 returns-3 : tie.Need-returns-3
-returns-3 c = rw (framed (c .before .before), le-ltb _ _ (c .before .if2 .left)) (c .place-of .ensures)
+returns-3 c = rw (framed (c .before .before .before), le-ltb _ _ (c .before .before .if2 .left)) (c .place-of .ensures)
 
 pub locate-spec : {M : Type 1} → statement M
-locate-spec = tie.close (tie.spec (λ c κs. search needs) returns returns-2 place-of-requires returns-3)
+locate-spec = tie.close (tie.spec (λ c κs. search needs) returns returns-2 (λ c κs. framed (c .before)) place-of-requires returns-3)

@@ -15,7 +15,9 @@ use Rattle.locate.proofs.place_of.Tie as tie
 on-nearest-requires : tie.Need-on-nearest-requires
 on-nearest-requires c κs =
     let start = c .before .before .before .before .before in
-    record { frame = start .pre .frame; level = start .pre .level; vector = sym (c .before .before .verdict .ensures) ∙ c .enum-told .given .1 }
+    let fine = sym (c .before .before .verdict .ensures) ∙ c .enum-told .given .1 in
+    let n = c .before .before .before in
+    (record { frame = start .pre .0 .frame; level = start .pre .0 .level; vector = fine }, rw (n .new .ensures) (start .pre .1 (rw (n .new .ensures) at fine)))
 
 returns : tie.Need-returns
 returns c =

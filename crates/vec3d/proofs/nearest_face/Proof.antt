@@ -21,9 +21,8 @@ nearest-of-requires c κs = framed (c .before .before .before)
 
 returns-2 : tie.Need-returns-2
 returns-2 c =
-    rw (framed (c .before .before .before .before))
-    (answers 2 _ _ _ (sym (c .before .before .before .verdict .ensures) ∙ c .before .enum-told .given .1)
-    (ap (λ (n : Nearest). answer (nearestValues n)) (c .nearest-of .ensures)))
+    let fine = sym (c .before .before .before .verdict .ensures) ∙ c .before .enum-told .given .1 in
+    rw (framed (c .before .before .before .before)) (answers 2 _ _ _ fine (ap (λ (n : Nearest). answer (nearestValues n)) (c .nearest-of .ensures fine)))
 
 returns-3 : tie.Need-returns-3
 returns-3 c =

@@ -1,42 +1,32 @@
--- `Axial::fold` meets its contract: the parity offset and the halves cancel. Assumes nothing.
+-- `Axial::fold` meets its contract: what the folds come to. Assumes nothing.
 use borrow.Author.Needs.{needs}
-use mathlib.Core.Path.{_≡_}
-use Prim.Native.Nat.{ℕ, _+_, _-_, _*_, _/_, _%_}
+use mathlib.Core.Path.{sym, _∙_}
 use native.Mathlib.Omega.{arith}
-use Rattle.vec2d.proofs.Folding.{folded}
+use Rattle.vec2d.proofs.Folding.{folded, lesser-first, lesser-second, flattened}
 use Rattle.vec2d.proofs.Axial.fold.Statement.{statement}
 use Rattle.vec2d.proofs.Axial.fold.Tie as tie
 
-parity : (j : ℕ) → 2 * ((j + j % 2) / 2) - j % 2 ≡ j
-parity j = omega arith
+sub-either : tie.Need-sub-either
+sub-either c = rw (c .before .either .ensures) (lesser-second _ _)
 
-halves : (a j : ℕ) → a + j - (2 * j + 1) / 2 ≡ a
-halves a j = omega arith
+sub-either-2 : tie.Need-sub-either-2
+sub-either-2 c = rw (c .before .before .before .either .ensures) (lesser-first _ _)
 
 returns : tie.Need-returns
 returns c =
-    let t = c .before .before in
-    rw (folded, t .before .if1 .taken, t .if2 .taken) (rw (c .before .new .ensures, halves, parity) at (c .reduce .ensures))
-
-returns-2 : tie.Need-returns-2
-returns-2 c =
-    let t = c .before .before in
-    rw (folded, t .before .if1 .taken, t .if2 .left) (rw (c .before .new2 .ensures, parity) at (c .reduce2 .ensures))
-
-returns-3 : tie.Need-returns-3
-returns-3 c =
-    let t = c .before .before in
-    rw (folded, t .before .if1 .left, t .if3 .taken) (rw (c .before .new3 .ensures, halves) at (c .reduce3 .ensures))
-
-returns-4 : tie.Need-returns-4
-returns-4 c =
-    let t = c .before .before in
-    rw (folded, t .before .if1 .left, t .if3 .left) (rw (c .before .new4 .ensures) at (c .reduce4 .ensures))
+    let e7 = c .before in
+    let e6 = e7 .before in
+    let e5 = e6 .before in
+    let e4 = e5 .before in
+    let e3 = e4 .before in
+    let e2 = e3 .before in
+    let e1 = e2 .before in
+    let a = e1 .before .args in
+    rw (c .new .ensures, e7 .either7 .ensures, e6 .either6 .ensures, e5 .either5 .ensures, e4 .either4 .ensures, e3 .either3 .ensures, e2 .either2 .ensures, e1 .either .ensures, folded)
+    (flattened (a .left) (a .down) (a .self .i) (a .self .j))
 
 pub fold-spec : {M : Type 1} → statement M
 fold-spec =
     tie.close
-    (tie.spec (λ c. search needs) (λ c. search needs) (λ c. search needs) (λ c. search needs) (λ c. search needs) (λ c. search
-    needs) (λ c. search needs) (λ c. search needs) (λ c κs. search needs) (λ c κs. search needs) (λ c. search needs) (λ c κs.
-    search needs) (λ c κs. search needs) (λ c. search needs) (λ c. search needs) (λ c. search needs) (λ c. search needs) (λ c κs.
-    search needs) (λ c κs. search needs) (λ c κs. search needs) (λ c κs. search needs) returns returns-2 returns-3 returns-4)
+    (tie.spec (λ c κs. search needs) (λ c κs. search needs) sub-either (λ c κs. search needs) (λ c κs. search needs) sub-either-2 (λ c κs. search needs)
+    (λ c κs. search needs) (λ c κs. search needs) (λ c κs. search needs) returns)

@@ -8,15 +8,21 @@ use Rattle.vec2d.proofs.Accepted.{first-upto, second-upto, first-whole,
 use Rattle.vec2d.proofs.Vec2d.quantize.Statement.{statement}
 use Rattle.vec2d.proofs.Vec2d.quantize.Tie as tie
 
+magnitude-requires : tie.Need-magnitude-requires
+magnitude-requires c κs = c .pre .y .number
+
+magnitude-requires-2 : tie.Need-magnitude-requires-2
+magnitude-requires-2 c κs = c .before .pre .x .number
+
 split-requires : tie.Need-split-requires
 split-requires c κs =
     let p = c .before .before in
-    rw (c .size2 .ensures, c .before .size .ensures) (upto-le (2 ^ 26 - 1) (2 ^ 32 - 1) _ (lit≤ tt) (first-upto (p .args .self) (p .pre)))
+    rw (c .magnitude2 .ensures, c .before .magnitude .ensures) (upto-le (2 ^ 26 - 1) (2 ^ 32 - 1) _ (lit≤ tt) (first-upto (p .args .self) (p .pre)))
 
 split-requires-2 : tie.Need-split-requires-2
 split-requires-2 c κs =
     let p = c .before .before .before in
-    rw (c .before .before .size .ensures) (upto-le (2 ^ 26 - 1) (2 ^ 32 - 1) _ (lit≤ tt) (second-upto (p .args .self) (p .pre)))
+    rw (c .before .before .magnitude .ensures) (upto-le (2 ^ 26 - 1) (2 ^ 32 - 1) _ (lit≤ tt) (second-upto (p .args .self) (p .pre)))
 
 returns : tie.Need-returns
 unfolding quantizedOf
@@ -24,14 +30,14 @@ returns c =
     let x = c .before .before in
     let y = x .before in
     let p = y .before in (
-      rw (c .split2 .ensures, c .before .split .ensures, x .size2 .ensures, y .size .ensures),
+      rw (c .split2 .ensures, c .before .split .ensures, x .magnitude2 .ensures, y .magnitude .ensures),
       (
-        rw (c .before .split .ensures, x .size2 .ensures, y .size .ensures) (first-whole (p .args .self) (p .pre)),
-        rw (c .split2 .ensures, y .size .ensures) (second-whole (p .args .self) (p .pre)),
+        rw (c .before .split .ensures, x .magnitude2 .ensures, y .magnitude .ensures) (first-whole (p .args .self) (p .pre)),
+        rw (c .split2 .ensures, y .magnitude .ensures) (second-whole (p .args .self) (p .pre)),
       ),
     )
 
 pub quantize-spec : {M : Type 1} → statement M
 quantize-spec =
     tie.close
-    (tie.spec (λ c κs. search needs) (λ c κs. search needs) split-requires split-requires-2 returns)
+    (tie.spec magnitude-requires magnitude-requires-2 split-requires split-requires-2 returns)

@@ -6,7 +6,7 @@ use Rattle.vec3d.proofs.Vec3d.loose.Tie as tie
 
 returns : tie.Need-returns
 unfolding loose
-returns c = rw (c .size3 .ensures, c .before .size2 .ensures, c .before .before .size .ensures)
+returns c = rw (c .is-narrow3 .ensures, c .before .is-narrow2 .ensures, c .before .before .is-narrow .ensures)
 
 pub loose-spec : {M : Type 1} → statement M
 loose-spec = tie.close
