@@ -6,3 +6,4 @@ pub mod Nonnegative
 pub mod Tests
 pub mod Squares
 pub mod Left
+pub mod Whole

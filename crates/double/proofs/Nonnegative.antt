@@ -1,13 +1,12 @@
 -- Doubles that are their own size (`Upto`): products, sums, quotients and whole numbers of such are such. Assumes nothing.
 use mathlib.Core.Path.{_≡_, refl}
 use mathlib.Core.Bool.{true, false, false≢true}
-use Prim.Native.Nat.{ℕ, zero, suc, _+_, _-_, _*_, _/_, _^_, _≤_, _<_}
-use native.Mathlib.Nat.{le-trans, le-of-eq, mul-comm, mul-lt-mul-of-pos-right, div-le-of-le-mul}
+use Prim.Native.Nat.{ℕ, zero, suc, _+_, _*_, _/_, _^_, _≤_, _<_}
+use native.Mathlib.Nat.{le-trans, le-of-eq, mul-comm, div-le-of-le-mul}
 use native.Mathlib.Omega.{arith}
 use lib.IntN.{ℤ, pos}
-use lib.Dec.{T, lt→ltb, eqb·suc-zero, lit<, lit≤}
-use lib.Ieee.{Float, nan, inf, fin, binary64, ofBits, up, down, sum, add, mul, div, lt, ofInt, toUnsigned}
-use lib.Ieee.Fits.{down-pos}
+use lib.Dec.{eqb·suc-zero, lit<, lit≤}
+use lib.Ieee.{Float, nan, inf, fin, binary64, ofBits, up, down, sum, add, mul, div, ofInt, toUnsigned}
 use lib.Ieee.Positive.{num, den}
 use Rattle.double.specs.Double.{finite, sizeOf, half, one, two, twoAndHalf, three, rsin60, sin60, wholeOf}
 use Rattle.double.specs.Sizes.{Under, Upto}
@@ -45,15 +44,33 @@ mul-plus (fin false m e) (inf t) f g p q = absurd (false≢true g)
 mul-plus (fin false m e) (fin true n d) f g p q = signed n d q
 mul-plus (fin false m e) (fin false n d) f g p q = round-size false (m * up e * (n * up d)) (down e * down d)
 
-add-plus : (x y : Float) → finite x ≡ true → finite y ≡ true → sizeOf x ≡ x → sizeOf y ≡ y → sizeOf (add binary64 x y) ≡ add binary64 x y
+-- A sum is also where there is a NaN or an infinity.
+minus-inf : {A : Type 0} → sizeOf (inf true) ≡ inf true → A
+minus-inf h = absurd (false≢true (cc))
+
+pub add-plus : (x y : Float) → sizeOf x ≡ x → sizeOf y ≡ y → sizeOf (add binary64 x y) ≡ add binary64 x y
 unfolding add sum
-add-plus nan y f g p q = absurd (false≢true f)
-add-plus (inf s) y f g p q = absurd (false≢true f)
-add-plus (fin true m e) y f g p q = signed m e p
-add-plus (fin false m e) nan f g p q = absurd (false≢true g)
-add-plus (fin false m e) (inf t) f g p q = absurd (false≢true g)
-add-plus (fin false m e) (fin true n d) f g p q = signed n d q
-add-plus (fin false m e) (fin false n d) f g p q = round-size false (m * up e * down d + n * up d * down e) (down e * down d)
+add-plus nan y p q = refl
+add-plus (inf true) y p q = minus-inf p
+add-plus (inf false) nan p q = refl
+add-plus (inf false) (inf true) p q = minus-inf q
+add-plus (inf false) (inf false) p q = refl
+add-plus (inf false) (fin t n d) p q = refl
+add-plus (fin true m e) y p q = signed m e p
+add-plus (fin false m e) nan p q = refl
+add-plus (fin false m e) (inf true) p q = minus-inf q
+add-plus (fin false m e) (inf false) p q = refl
+add-plus (fin false m e) (fin true n d) p q = signed n d q
+add-plus (fin false m e) (fin false n d) p q = round-size false (m * up e * down d + n * up d * down e) (down e * down d)
+
+-- So is a square of anything.
+pub square-plus : (x : Float) → sizeOf (mul binary64 x x) ≡ mul binary64 x x
+unfolding mul
+square-plus nan = refl
+square-plus (inf true) = refl
+square-plus (inf false) = refl
+square-plus (fin true m e) = round-size false (m * up e * (m * up e)) (down e * down e)
+square-plus (fin false m e) = round-size false (m * up e * (m * up e)) (down e * down e)
 
 div-plus : (x y : Float) → finite x ≡ true → finite y ≡ true → 0 < num y → sizeOf x ≡ x → sizeOf y ≡ y → sizeOf (div binary64 x y) ≡ div binary64 x y
 unfolding div
@@ -79,7 +96,7 @@ mul-upto a b x y p q N =
 
 pub add-upto : (a b : ℕ) (x y : Float) → Upto a x → Upto b y → a + b ≤ 2 ^ 53 → Upto (a + b) (add binary64 x y)
 add-upto a b x y p q N =
-    record { under = add-under a b x y (p .under) (q .under) N; plus = add-plus x y (p .under .number) (q .under .number) (p .plus) (q .plus) }
+    record { under = add-under a b x y (p .under) (q .under) N; plus = add-plus x y (p .plus) (q .plus) }
 
 -- ---- the numbers of the paper
 
@@ -131,25 +148,3 @@ whole-le n (fin true m e) p = signed m e (p .plus)
 whole-le n (fin false m e) p =
     let d : m * up e / down e ≤ n = div-le-of-le-mul (down e) (le-trans (p .under .size) (le-of-eq (mul-comm n (down e)))) in
     omega arith
-
--- what a call of `truncating_f64_to_u64` asks
-some : (d a : ℕ) → 0 < d → 0 < 1 * d + a
-some d a h = omega arith
-
-pub above-minus-one : (n : ℕ) (x : Float) → Upto n x → T (lt (fin true 1 (pos 0)) x)
-unfolding lt
-above-minus-one n nan p = absurd (false≢true (p .under .number))
-above-minus-one n (inf s) p = absurd (false≢true (p .under .number))
-above-minus-one n (fin true m e) p = signed m e (p .plus)
-above-minus-one n (fin false m e) p = lt→ltb 0 (1 * down e + m * up e * 1) (some (down e) (m * up e * 1) (down-pos e))
-
-pub below-top : (n : ℕ) (x : Float) → n < 2 ^ 64 → Upto n x → T (lt x (fin false 1 (pos 64)))
-unfolding lt
-below-top n nan N p = absurd (false≢true (p .under .number))
-below-top n (inf s) N p = absurd (false≢true (p .under .number))
-below-top n (fin true m e) N p = signed m e (p .plus)
-below-top n (fin false m e) N p =
-    let l : n * down e < 2 ^ 64 * down e = mul-lt-mul-of-pos-right N (down-pos e) in
-    let b : m * up e ≤ n * down e = p .under .size in
-    let g : m * up e * 1 < 2 ^ 64 * down e = omega arith in
-    lt→ltb (m * up e * 1) (2 ^ 64 * down e) g

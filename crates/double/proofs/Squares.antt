@@ -1,23 +1,24 @@
--- Three finite numbers whose rounded squares sum to at most 1 + 2^-40 are at most 2 in size. Assumes nothing.
+-- Three finite numbers whose rounded squares sum to less than k · k are at most k in size. Assumes nothing.
 use mathlib.Core.Path.{_≡_, refl, sym, ap, _∙_}
 use mathlib.Core.Bool.{Bool, true, false, not, true≢false, false≢true}
 use Prim.Native.Nat.{ℕ, _+_, _*_, _^_, _≤_, _<_, zero-le}
 use native.Mathlib.Nat.{le-trans, le-of-eq, le-of-lt, mul-le-mul, mul-le-mul-right, le-of-mul-le-mul-right, mul-comm, mul-assoc, mul-right-comm, mul-mul-mul-comm, mul-one, add-mul, mul-pos, zero-mul, lt-irrefl}
 use native.Mathlib.Omega.{arith}
-use lib.Dec.{T, leb, leb→le, nleb→lt, lit<, lit≤}
-use lib.Ieee.{Float, nan, inf, fin, binary64, ofBits, up, down, unlike, round, sum, add, mul, le}
+use lib.Dec.{T, leb, leb→le, nleb→lt, ltb→lt, lit<, lit≤}
+use lib.Ieee.{Float, nan, inf, fin, binary64, ofBits, up, down, unlike, round, sum, add, mul, lt, le}
 use lib.Ieee.Fits.{down-pos}
 use lib.Ieee.Exact.{HasValue}
 use lib.Ieee.Order.{round-mono}
 use lib.Ieee.Back.{round-whole}
 use lib.Ieee.Positive.{num, den}
-use Rattle.double.specs.Double.{finite, sizeOf, mulAdd, sphereHigh}
+use Rattle.double.specs.Double.{finite, sizeOf, mulAdd, nine, sphereHigh}
 use Rattle.double.specs.Sizes.{Under}
 use Rattle.double.proofs.Sizes.{round-size, le-of-test}
+use Rattle.double.proofs.Nonnegative.{add-plus, square-plus}
 use Rattle.double.proofs.Tests.{holds}
 
 -- at least k and not negative, an infinity included
-abbrev Over : ℕ → Float → Type 0
+abbrev pub Over : ℕ → Float → Type 0
 Over k nan = ⊥
 Over k (inf true) = ⊥
 Over k (inf false) = Unit
@@ -45,25 +46,25 @@ round-over a c k C K h =
     over k (round binary64 false a c) (round binary64 false k 1) (round-size false a c) (round-whole binary64 false k K)
     (round-mono binary64 k 1 a c (lit< tt) C (le-trans h (le-of-eq (sym (mul-one a)))))
 
-add-over : (a b : ℕ) (x y : Float) → Over a x → Over b y → a + b ≤ 2 ^ 53 → Over (a + b) (add binary64 x y)
+add-over : (a b k : ℕ) (x y : Float) → Over a x → Over b y → k ≤ a + b → k ≤ 2 ^ 53 → Over k (add binary64 x y)
 unfolding add sum
-add-over a b nan y p q h = absurd p
-add-over a b (inf true) y p q h = absurd p
-add-over a b (inf false) nan p q h = absurd q
-add-over a b (inf false) (inf true) p q h = absurd q
-add-over a b (inf false) (inf false) p q h = tt
-add-over a b (inf false) (fin true n d) p q h = absurd q
-add-over a b (inf false) (fin false n d) p q h = tt
-add-over a b (fin true m e) y p q h = absurd p
-add-over a b (fin false m e) nan p q h = absurd q
-add-over a b (fin false m e) (inf true) p q h = absurd q
-add-over a b (fin false m e) (inf false) p q h = tt
-add-over a b (fin false m e) (fin true n d) p q h = absurd q
-add-over a b (fin false m e) (fin false n d) p q h =
+add-over a b k nan y p q s h = absurd p
+add-over a b k (inf true) y p q s h = absurd p
+add-over a b k (inf false) nan p q s h = absurd q
+add-over a b k (inf false) (inf true) p q s h = absurd q
+add-over a b k (inf false) (inf false) p q s h = tt
+add-over a b k (inf false) (fin true n d) p q s h = absurd q
+add-over a b k (inf false) (fin false n d) p q s h = tt
+add-over a b k (fin true m e) y p q s h = absurd p
+add-over a b k (fin false m e) nan p q s h = absurd q
+add-over a b k (fin false m e) (inf true) p q s h = absurd q
+add-over a b k (fin false m e) (inf false) p q s h = tt
+add-over a b k (fin false m e) (fin true n d) p q s h = absurd q
+add-over a b k (fin false m e) (fin false n d) p q s h =
     let c = down e * down d in
     let l : a * c ≤ m * up e * down d = le-trans (le-of-eq (sym (mul-assoc a (down e) (down d)))) (mul-le-mul-right (down d) p) in
     let r : b * c ≤ n * up d * down e = le-trans (le-of-eq (ap (λ (z : ℕ). b * z) (mul-comm (down e) (down d)) ∙ sym (mul-assoc b (down d) (down e)))) (mul-le-mul-right (down e) q) in
-    round-over _ c (a + b) (mul-pos (down-pos e) (down-pos d)) h (rw add-mul (omega arith))
+    round-over _ c k (mul-pos (down-pos e) (down-pos d)) h (le-trans (mul-le-mul-right c s) (rw add-mul (omega arith)))
 
 -- a square is not negative, and of a number over k in size it is at least k * k
 square-over : (k : ℕ) (x : Float) → finite x ≡ true → k * den x ≤ num x → k * k ≤ 2 ^ 53 → Over (k * k) (mul binary64 x x)
@@ -80,40 +81,69 @@ square-over k (fin s m e) t l h =
     sign true p = p
     sign false p = p
 
-square-plus : (x : Float) → finite x ≡ true → Over 0 (mul binary64 x x)
-square-plus x t = square-over 0 x t (le-trans (le-of-eq (zero-mul (den x))) zero-le) (lit≤ tt)
+-- a square is at least 0
+square-low : (x : Float) → finite x ≡ true → Over 0 (mul binary64 x x)
+square-low x t = square-over 0 x t (le-trans (le-of-eq (zero-mul (den x))) zero-le) (lit≤ tt)
 
--- what is at least 4 is not at most 1 + 2^-40
-too-big : (x : Float) → Over 4 x → T (le x sphereHigh) → ⊥
+-- what is at least 4 is not at most 1 + 2^-40, and what is at least 9 is not below 9
+above-sphere : (x : Float) → Over 4 x → T (le x sphereHigh) → ⊥
 unfolding le ofBits
-too-big nan p q = p
-too-big (inf true) p q = p
-too-big (inf false) p q = q
-too-big (fin true m e) p q = p
-too-big (fin false m e) p q = lt-irrefl 0 (omega (arith, le-of-test (m * up e * 2 ^ 40) ((2 ^ 40 + 1) * 1 * down e) true q, down-pos e))
+above-sphere nan p q = p
+above-sphere (inf true) p q = p
+above-sphere (inf false) p q = q
+above-sphere (fin true m e) p q = p
+above-sphere (fin false m e) p q = lt-irrefl 0 (omega (arith, le-of-test (m * up e * 2 ^ 40) ((2 ^ 40 + 1) * 1 * down e) true q, down-pos e))
+
+above-nine : (x : Float) → Over 9 x → T (lt x nine) → ⊥
+unfolding lt ofBits
+above-nine nan p q = p
+above-nine (inf true) p q = p
+above-nine (inf false) p q = q
+above-nine (fin true m e) p q = p
+above-nine (fin false m e) p q = lt-irrefl 0 (omega (arith, p, ltb→lt (m * up e * 1) (9 * 1 * down e) q))
 
 module _ (x y z : Float) where
   abbrev square : Float
   square = mulAdd x x (mulAdd y y (mul binary64 z z))
 
-  -- a part over 2 in size would make the sum 4 or more
-  part : (w : Float) → finite w ≡ true → le square sphereHigh ≡ true → (Over 4 (mul binary64 w w) → Over 4 square) → Under 2 w
-  part nan t h f = absurd (false≢true t)
-  part (inf s) t h f = absurd (false≢true t)
-  part (fin s m e) t h f = go (leb (m * up e) (2 * down e)) (leb→le (m * up e) (2 * down e)) (nleb→lt (m * up e) (2 * down e))
-    where
-      go : (b : Bool) → (T b → m * up e ≤ 2 * down e) → (T (not b) → 2 * down e < m * up e) → Under 2 (fin s m e)
-      go true u v = record { number = refl; size = u tt }
-      go false u v = absurd (too-big square (f (square-over 2 (fin s m e) t (le-of-lt (v tt)) (lit≤ tt))) (holds h))
+  module _ (k : ℕ) (K : k * k ≤ 2 ^ 53) (low : Over (k * k) square → ⊥) where
+    -- a part over k in size would make the sum k · k or more
+    part : (w : Float) → finite w ≡ true → (Over (k * k) (mul binary64 w w) → Over (k * k) square) → Under k w
+    part nan t f = absurd (false≢true t)
+    part (inf s) t f = absurd (false≢true t)
+    part (fin s m e) t f = go (leb (m * up e) (k * down e)) (leb→le (m * up e) (k * down e)) (nleb→lt (m * up e) (k * down e))
+      where
+        go : (b : Bool) → (T b → m * up e ≤ k * down e) → (T (not b) → k * down e < m * up e) → Under k (fin s m e)
+        go true u v = record { number = refl; size = u tt }
+        go false u v = absurd (low (f (square-over k (fin s m e) t (le-of-lt (v tt)) K)))
+
+    parts-under : finite x ≡ true → finite y ≡ true → finite z ≡ true → Under k x × Under k y × Under k z
+    unfolding mulAdd
+    parts-under p q r =
+        let xx = mul binary64 x x in
+        let yy = mul binary64 y y in
+        let zz = mul binary64 z z in
+        let n = k * k in (
+          part x p (λ l. add-over n 0 n xx (add binary64 yy zz) l (add-over 0 0 0 yy zz (square-low y q) (square-low z r) (lit≤ tt) (lit≤ tt)) (omega arith) K),
+          part y q (λ l. add-over 0 n n xx (add binary64 yy zz) (square-low x p) (add-over n 0 n yy zz l (square-low z r) (omega arith) K) (omega arith) K),
+          part z r (λ l. add-over 0 n n xx (add binary64 yy zz) (square-low x p) (add-over 0 n n yy zz (square-low y q) l (omega arith) K) (omega arith) K),
+        )
 
   -- The parts of a vector that passes the sphere test are at most 2 in size.
   pub sphere-under : finite x ≡ true → finite y ≡ true → finite z ≡ true → le square sphereHigh ≡ true → Under 2 x × Under 2 y × Under 2 z
-  unfolding mulAdd
-  sphere-under p q r h =
-      let xx = mul binary64 x x in
-      let yy = mul binary64 y y in
-      let zz = mul binary64 z z in (
-        part x p h (λ l. add-over 4 0 xx (add binary64 yy zz) l (add-over 0 0 yy zz (square-plus y q) (square-plus z r) (lit≤ tt)) (lit≤ tt)),
-        part y q h (λ l. add-over 0 4 xx (add binary64 yy zz) (square-plus x p) (add-over 4 0 yy zz l (square-plus z r) (lit≤ tt)) (lit≤ tt)),
-        part z r h (λ l. add-over 0 4 xx (add binary64 yy zz) (square-plus x p) (add-over 0 4 yy zz (square-plus y q) l (lit≤ tt)) (lit≤ tt)),
-      )
+  sphere-under p q r h = parts-under 2 (lit≤ tt) (λ o. above-sphere square o (holds h)) p q r
+
+  -- Those of a vector whose squares sum to less than 9 are at most 3 in size.
+  pub nine-under : finite x ≡ true → finite y ≡ true → finite z ≡ true → lt square nine ≡ true → Under 3 x × Under 3 y × Under 3 z
+  nine-under p q r h = parts-under 3 (lit≤ tt) (λ o. above-nine square o (holds h)) p q r
+
+  -- Such a sum is a number: it is its own size, so no infinity below zero.
+  pub square-finite : lt square nine ≡ true → finite square ≡ true
+  unfolding mulAdd lt ofBits
+  square-finite h = go square (add-plus _ _ (square-plus x) (add-plus _ _ (square-plus y) (square-plus z))) h
+    where
+      go : (d : Float) → sizeOf d ≡ d → lt d nine ≡ true → finite d ≡ true
+      go nan p e = absurd (false≢true e)
+      go (inf true) p e = absurd (false≢true (cc))
+      go (inf false) p e = absurd (false≢true e)
+      go (fin s m f) p e = refl

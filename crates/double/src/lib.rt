@@ -2,7 +2,9 @@
 ghost use mathlib.Core.Path.{_≡_};
 ghost use mathlib.Core.Bool.{true};
 ghost use Prim.Native.Nat.{_-_, _^_};
-ghost use Rattle.double.specs.Double.{finite, sizeOf, partsOf, mulAdd};
+ghost use lib.IntN.{pos};
+ghost use lib.Ieee.{binary64, ofInt};
+ghost use Rattle.double.specs.Double.{finite, sizeOf, wholeOf, partsOf, mulAdd};
 ghost use Rattle.double.specs.Sizes.{Upto};
 
 // The whole part of a number from 0 up, and what is left of the number without it.
@@ -36,15 +38,25 @@ pub fn is_finite(x: f64) -> bool
     (x < 1.0 / 0.0) & (-1.0 / 0.0 < x)
 }
 
+// The whole part as a double. From 2^52 on every double is whole, so adding 2^52 rounds x to the nearest whole number, and taking 2^52 off again is exact.
+// Where that number lies above x, the whole part is one less.
+fn floor(x: f64) -> f64
+    requires { ⌜ Upto (2 ^ 32 - 1) x ⌝ }
+    ensures { λ r. ⌜ r ≡ ofInt binary64 (pos (wholeOf x)) ⌝ }
+{
+    let near = (x + 4503599627370496.0) - 4503599627370496.0;
+    if x < near { near - 1.0 } else { near }
+}
+
 // Whole part and leftover together. Public for the rounding of plane points, which tests the size before.
 pub fn split(x: f64) -> Parts
     requires { ⌜ Upto (2 ^ 32 - 1) x ⌝ }
     ensures { λ r. ⌜ r ≡ partsOf x ⌝ }
 {
-    let whole = std::num::truncating_f64_to_u64(x) as u32;
+    let whole = floor(x);
     Parts {
-        whole,
-        left: x - (whole as f64),
+        whole: whole as u32,
+        left: x - whole,
     }
 }
 

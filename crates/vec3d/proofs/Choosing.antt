@@ -9,15 +9,13 @@ use native.Mathlib.Nat.{le-refl, le-suc, le-trans, le-of-suc-le-suc, eq-or-lt-of
 use native.Mathlib.Omega.{arith}
 use lib.Ieee.{Float, lt}
 use Rattle.reply.specs.Choice.{pick}
-use Rattle.reply.specs.declared.Verdict.the-variants.{Fine}
-use Rattle.reply.specs.declared.Refusal.the-variants.{BadNumber, OffSphere}
-use Rattle.reply.proofs.Entries.{passed}
 use Rattle.double.specs.Double.{finite}
 use Rattle.vec3d.specs.declared.Vec3d.{Vec3d}
 use Rattle.vec3d.specs.declared.Nearest.{Nearest}
-use Rattle.vec3d.specs.Vectors.{badNumber, offSphere, vectorVerdict}
+use Rattle.vec3d.specs.Vectors.{badNumber, offSphere}
 use Rattle.vec3d.specs.Frame.{badFrame}
-use Rattle.vec3d.specs.Nearest.{distanceOf, closerOf, pairOf, nearestTo}
+use Rattle.vec3d.specs.Nearest.{distanceOf, closerOf, nearestBy, nearestTo, pairOf, at, Distances, NearestIf}
+use Rattle.vec3d.proofs.Passing.{passed-both}
 use Rattle.vec3d.proofs.Sizes.{distance-under}
 use Rattle.vec3d.proofs.Comparing.{below-all, not-both, not-itself}
 
@@ -27,7 +25,7 @@ either P true p q = p
 either P false p q = q
 
 pub nearest-in : (s : List Float) (p : Vec3d) (f : ℕ) → nearestTo s p f .face ≤ f
-unfolding nearestTo closerOf
+unfolding nearestBy closerOf
 nearest-in s p zero = zero-le
 nearest-in s p (suc f) =
     either (λ (b : Nearest). b .face ≤ suc f) (lt (distanceOf s p (suc f)) (nearestTo s p f .distance))
@@ -76,20 +74,20 @@ module _ (d : ℕ → Float) (f : ℕ) (known : (k : ℕ) → k ≤ suc f → fi
       go true yes-new no-new = yes-new refl
       go false yes-new no-new = no-new refl
 
-wins : (s : List Float) (p : Vec3d) (f : ℕ) → ((k : ℕ) → k ≤ f → finite (distanceOf s p k) ≡ true) → Wins (distanceOf s p) f (nearestTo s p f)
-unfolding nearestTo
-wins s p zero known =
+wins : (d : ℕ → Float) (f : ℕ) → ((k : ℕ) → k ≤ f → finite (d k) ≡ true) → Wins d f (nearestBy d f)
+unfolding nearestBy
+wins d zero known =
     record {
       within = le-refl zero;
       own = refl;
-      least = λ k h. subst (λ (i : ℕ). lt (distanceOf s p i) (distanceOf s p 0) ≡ false) (omega arith) (not-itself (distanceOf s p 0) (known 0 zero-le));
+      least = λ k h. subst (λ (i : ℕ). lt (d i) (d 0) ≡ false) (omega arith) (not-itself (d 0) (known 0 zero-le));
       lowest = λ k h. absurd (not-suc-le-zero h);
     }
-wins s p (suc f) known = closer-wins (distanceOf s p) f known (nearestTo s p f) (wins s p f (λ k h. known k (le-trans h (le-suc f))))
+wins d (suc f) known = closer-wins d f known (nearestBy d f) (wins d f (λ k h. known k (le-trans h (le-suc f))))
 
 -- With a frame and a vector that pass, no face is strictly nearer than the one named, and each lower face is strictly farther.
 pub nearest-wins : (s : List Float) (p : Vec3d) → badFrame s ≡ false → badNumber p ≡ false → offSphere p ≡ false → Wins (distanceOf s p) 19 (nearestTo s p 19)
-nearest-wins s p e b o = wins s p 19 (λ k h. distance-under s p k e b o (omega arith) .number)
+nearest-wins s p e b o = wins (distanceOf s p) 19 (λ k h. distance-under s p k e b o (omega arith) .number)
 
 -- ---- two faces at a time
 
@@ -124,26 +122,34 @@ module _ (best : Nearest) (f g : ℕ) (d e : Float) (D : finite d ≡ true) (E :
       go false true p q = refl
       go false false p q = rw (p, not-lt-trans d e (best .distance) D E B q p)
 
-pub first-pair : (s : List Float) (p : Vec3d) → pairOf s p 0 ≡ nearestTo s p 1
-unfolding pairOf nearestTo
-first-pair s p = refl
+pub first-pair : (d : ℕ → Float) → pairOf d 0 ≡ nearestBy d 1
+unfolding pairOf nearestBy
+first-pair d = refl
 
-module _ (s : List Float) (p : Vec3d) (frame : badFrame s ≡ false) (fine : vectorVerdict p ≡ Fine) where
-  known : (k : ℕ) → k < 20 → finite (distanceOf s p k) ≡ true
-  known k h =
-      let n = passed (badNumber p) BadNumber _ fine in
-      let o = passed (offSphere p) OffSphere _ (n .1) in
-      distance-under s p k frame (n .0) (o .0) h .number
-
-  best-known : (f : ℕ) → f < 20 → finite (nearestTo s p f .distance) ≡ true
+module _ (d : ℕ → Float) (known : (k : ℕ) → k < 20 → finite (d k) ≡ true) where
+  best-known : (f : ℕ) → f < 20 → finite (nearestBy d f .distance) ≡ true
   best-known f h =
-      let w = wins s p f (λ k l. known k (omega arith)) in
-      subst (λ (x : Float). finite x ≡ true) (sym (w .own)) (known (nearestTo s p f .face) (omega (arith, w .within)))
+      let w = wins d f (λ k l. known k (omega arith)) in
+      subst (λ (x : Float). finite x ≡ true) (sym (w .own)) (known (nearestBy d f .face) (omega (arith, w .within)))
 
-  pub by-pairs : (f : ℕ) (best : Nearest) → f + 2 < 20 → best ≡ nearestTo s p f
-      → closerOf best (pairOf s p (f + 1) .face) (pairOf s p (f + 1) .distance) ≡ nearestTo s p (f + 1 + 1)
-  unfolding pairOf nearestTo
+  pub by-pairs : (f : ℕ) (best : Nearest) → f + 2 < 20 → best ≡ nearestBy d f
+      → closerOf best (pairOf d (f + 1) .face) (pairOf d (f + 1) .distance) ≡ nearestBy d (f + 1 + 1)
+  unfolding pairOf nearestBy
   by-pairs f best h e =
       rw (e, add-one, add-one)
-      (tournament (nearestTo s p f) (suc f) (suc (suc f)) (distanceOf s p (suc f)) (distanceOf s p (suc (suc f))) (known (suc f) (omega arith)) (known (suc (suc f)) (omega arith))
+      (tournament (nearestBy d f) (suc f) (suc (suc f)) (d (suc f)) (d (suc (suc f))) (known (suc f) (omega arith)) (known (suc (suc f)) (omega arith))
       (best-known f (omega arith)))
+
+-- ---- the distances as the code holds them
+
+same-nearest : (d e : ℕ → Float) (f : ℕ) → ((k : ℕ) → k ≤ f → d k ≡ e k) → nearestBy d f ≡ nearestBy e f
+unfolding nearestBy
+same-nearest d e zero h = rw (h 0 zero-le)
+same-nearest d e (suc f) h = rw (same-nearest d e f (λ k l. h k (le-trans l (le-suc f))), h (suc f) (le-refl (suc f)))
+
+-- The nearest of twenty distances, if they are numbers, is the nearest face of a frame and a vector that pass.
+pub nearest-held : (s : List Float) (p : Vec3d) (far : List Float) (n : Nearest) → Distances s p far
+    → (((k : ℕ) → k < 20 → finite (at far k) ≡ true) → n ≡ nearestBy (at far) 19) → NearestIf s p n
+nearest-held s p far n h found frame fine =
+    let b = passed-both p fine in
+    found (λ k l. rw (h .each k l) (distance-under s p k frame (b .0) (b .1) l .number)) ∙ same-nearest (at far) (distanceOf s p) 19 (λ k l. h .each k (omega arith))

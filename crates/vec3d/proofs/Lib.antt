@@ -2,8 +2,10 @@
 pub mod Series
 pub mod Passing
 pub mod OnePass
+pub mod Doubt
 pub mod Sizes
 pub mod Comparing
 pub mod Choosing
+pub mod Held
 pub mod Order
 pub mod Unique

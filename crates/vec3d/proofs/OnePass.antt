@@ -4,19 +4,25 @@ use mathlib.Core.Bool.{Bool, true, false, not, _&&_, _||_, true≢false, false�
 use mathlib.Core.List.{List}
 use Prim.Native.Nat.{ℕ, zero, suc, _+_, _*_, _/_, _≤_, _<_}
 use native.Mathlib.Decide.{ℕ-discrete, decLe}
+use native.Mathlib.Nat.{le-trans, le-of-eq, mul-one}
 use native.Mathlib.Omega.{arith}
+use lib.Dec.{lit<}
 use lib.ListN.{length, getD}
-use lib.Ieee.{Float, nan, inf, fin, binary64, ofBits, add, mul, lt, eq, le}
-use borrow.Author.Tests.{not-false}
+use lib.Ieee.{Float, nan, inf, fin, binary64, ofBits, up, down, add, mul, lt, eq, le}
+use lib.Ieee.Bits.{is-true}
+use lib.Ieee.Fits.{down-pos}
+use lib.Ieee.Order.{le-of-values}
+use borrow.Author.Tests.{eq-eqb, not-false}
 use Rattle.reply.proofs.Entries.{neither}
 use Rattle.double.specs.Double.{finite, sizeOf, mulAdd, three, sphereLow, sphereHigh}
-use Rattle.double.proofs.Tests.{lt-not-le, between-le, le-between}
+use Rattle.double.specs.Sizes.{Under}
+use Rattle.double.proofs.Tests.{lt-not-le, between-le, le-between, three-value}
 use Rattle.vec3d.specs.declared.Vec3d.{Vec3d}
 use Rattle.vec3d.specs.Vectors.{dotOf, badNumber, offSphere, wide, narrow, loose}
-use Rattle.vec3d.specs.Frame.{vecAt, someBelow, nonFinite, badAxes, unfit}
+use Rattle.vec3d.specs.Frame.{vecAt, someBelow, nonFinite, badAxes, unfit, badFrame}
 use Rattle.vec3d.proofs.Passing.{none-at}
 
-both : (a b : Bool) → (a && b) ≡ true → (a ≡ true) × (b ≡ true)
+pub both : (a b : Bool) → (a && b) ≡ true → (a ≡ true) × (b ≡ true)
 both true b e = (refl, e)
 both false b e = absurd (false≢true e)
 
@@ -54,6 +60,13 @@ within x e =
 
 not-above : (x : Float) → finite x ≡ true → lt three (sizeOf x) ≡ false → narrow x ≡ true
 not-above x f e = size-narrow x f (not-false _ (sym (lt-not-le three (sizeOf x) three-finite (size-finite x f)) ∙ e))
+
+pub under-narrow : (x : Float) → Under 3 x → narrow x ≡ true
+under-narrow nan p = absurd (false≢true (p .number))
+under-narrow (inf s) p = absurd (false≢true (p .number))
+under-narrow (fin s m e) p =
+    size-narrow (fin s m e) refl
+    (is-true _ (le-of-values (fin false m e) three (m * up e) (down e) 3 1 (down-pos e) (lit< tt) (refl, refl) three-value (le-trans (le-of-eq (mul-one (m * up e))) (p .size))))
 
 -- an axis that is not loose
 tight : (v : Vec3d) → loose v ≡ false → (badNumber v ≡ false) × (wide v ≡ false)
@@ -120,17 +133,22 @@ high-finite : finite sphereHigh ≡ true
 unfolding ofBits
 high-finite = refl
 
--- a vector on the sphere has finite parts
-pub on-sphere : (v : Vec3d) → offSphere v ≡ false → badNumber v ≡ false
-unfolding offSphere dotOf mulAdd badNumber
-on-sphere v e =
-    let d = between-finite sphereLow _ sphereHigh low-finite high-finite (not-false _ e) in
+-- a vector whose square is a number has finite parts; so has one on the sphere
+pub parts-finite : (v : Vec3d) → finite (dotOf v v) ≡ true → (finite (v .x) ≡ true) × (finite (v .y) ≡ true) × (finite (v .z) ≡ true)
+unfolding dotOf mulAdd
+parts-finite v d =
     let xs = sum-finite _ _ d in
     let ys = sum-finite _ _ (xs .1) in
-    rw (root-finite (v .x) (xs .0), root-finite (v .y) (ys .0), root-finite (v .z) (ys .1))
+    (root-finite (v .x) (xs .0), root-finite (v .y) (ys .0), root-finite (v .z) (ys .1))
+
+pub on-sphere : (v : Vec3d) → offSphere v ≡ false → badNumber v ≡ false
+unfolding offSphere badNumber
+on-sphere v e =
+    let f = parts-finite v (between-finite sphereLow _ sphereHigh low-finite high-finite (not-false _ e)) in
+    rw (f .0, f .1, f .2)
 
 -- where a test fails at each number below n, it finds none
-none-below : (test : ℕ → Bool) (n : ℕ) → ((k : ℕ) → k < n → test k ≡ false) → someBelow test n ≡ false
+pub none-below : (test : ℕ → Bool) (n : ℕ) → ((k : ℕ) → k < n → test k ≡ false) → someBelow test n ≡ false
 unfolding someBelow
 none-below test zero h = refl
 none-below test (suc n) h = rw (none-below test n (λ k l. h k (omega arith)), h n (omega arith))
@@ -192,7 +210,7 @@ module _ (s : List Float) where
       rw (u, v, a .1)
 
   -- One pass over the faces finds what the two tests find.
-  pub one-pass : length s ≡ 180 → (nonFinite s || someBelow (badAxes s) 20) ≡ someBelow (unfit s) 20
+  one-pass : length s ≡ 180 → (nonFinite s || someBelow (badAxes s) 20) ≡ someBelow (unfit s) 20
   unfolding nonFinite
   one-pass long =
       same-false _ _
@@ -204,3 +222,8 @@ module _ (s : List Float) where
       let numbers = none-below (λ (n : ℕ). not (finite (getD s n nan))) (length s) (λ k l. ap not (number-fit k (none-at (unfit s) 20 (k / 9) e (omega (arith, long))))) in
       let faces = none-below (badAxes s) 20 (λ f l. fit f (none-at (unfit s) 20 f e l) .3) in
       rw (numbers, faces))
+
+  -- So a frame of 180 numbers is refused where one of its faces is unfit.
+  pub by-faces : length s ≡ 180 → badFrame s ≡ someBelow (unfit s) 20
+  unfolding badFrame
+  by-faces long = rw (eq-eqb _ _ long) (one-pass long)

@@ -1,12 +1,13 @@
 // Unit vectors, the lent frame of twenty faces, and the face that is nearest to a vector: the face choice of the source's `vec3d.rs`.
 ghost use mathlib.Core.Path.{_≡_};
-ghost use mathlib.Core.Bool.{false};
-ghost use Prim.Native.Nat.{_+_, _*_, _≤_, _<_};
+ghost use mathlib.Core.Bool.{true, false};
+ghost use Prim.Native.Nat.{ℕ, _+_, _*_, _≤_, _<_};
 ghost use lib.ListN.{length};
 ghost use Rattle.reply.specs.declared.Verdict.the-variants.{Fine};
-ghost use Rattle.vec3d.specs.Vectors.{dotOf, minusOf, badNumber, offSphere, narrow, loose, vectorVerdict};
-ghost use Rattle.vec3d.specs.Frame.{vecAt, faceAt, someBelow, unfit, badFrame};
-ghost use Rattle.vec3d.specs.Nearest.{distanceOf, closerOf, pairOf, nearestTo, saidNearest, nearestReply};
+ghost use Rattle.double.specs.Double.{finite};
+ghost use Rattle.vec3d.specs.Vectors.{dotOf, minusOf, badNumber, offSphere, narrow, loose, nearOne, vectorVerdict};
+ghost use Rattle.vec3d.specs.Frame.{vecAt, faceAt, someBelow, unfit, doubtful, badFrame};
+ghost use Rattle.vec3d.specs.Nearest.{distanceOf, closerOf, nearestBy, nearestTo, pairOf, at, Distances, NearestIf, saidNearest, nearestReply};
 use reply::Refusal;
 use reply::Verdict;
 
@@ -34,6 +35,12 @@ pub enum NearestFace {
     Refused(Refusal),
 }
 
+// What one look at a frame gives: whether a face is doubtful, and the nearest one.
+struct Looked {
+    pub doubt: bool,
+    pub nearest: Nearest,
+}
+
 // Whether x is from -3 to 3, by two comparisons: a NaN is not.
 fn is_narrow(x: f64) -> bool
     ensures { λ r. ⌜ r ≡ narrow x ⌝ }
@@ -44,6 +51,9 @@ fn is_narrow(x: f64) -> bool
 impl Vec3d {
     // How far from 1 the dot product of a unit vector with itself may be: 2^-40.
     pub const TOLERANCE: f64 = 0.0000000000009094947017729282379150390625;
+
+    // Half of it: 2^-41.
+    const CERTAIN: f64 = 0.00000000000045474735088646411895751953125;
 
     // How large a part of u or v may be.
     pub const WIDEST: f64 = 3.0;
@@ -147,6 +157,27 @@ fn unfit(frame: &[f64], face: u32) -> bool
     u.loose() | v.loose() | centre.off_sphere()
 }
 
+// Whether a unit vector's square is near to 1 beyond doubt: half of what the test of 7 allows, so that one rounding decides nothing.
+fn is_unit(square: f64) -> bool
+    ensures { λ r. ⌜ r ≡ nearOne square ⌝ }
+{
+    let off = square - 1.0;
+    (-Vec3d::CERTAIN <= off) & (off <= Vec3d::CERTAIN)
+}
+
+// Whether a face is not fit beyond doubt. A sum of squares below 9 has no part of 3 or more: three sums of squares take less time than
+// the tests of six parts, and a frame that is an icosahedron passes.
+fn doubtful(frame: &[f64], face: u32) -> bool
+    requires { ⌜ 9 * face + 9 ≤ length (now frame) ⌝ }
+    ensures { λ r. ⌜ r ≡ doubtful (now (frame .entry)) face ⌝ }
+{
+    let axes = face_at(frame, face);
+    let centre = axes.centre;
+    let u = axes.u;
+    let v = axes.v;
+    !((u.dot(u) < 9.0) & (v.dot(v) < 9.0) & is_unit(centre.dot(centre)))
+}
+
 // One pass over the faces finds what is not finite too: a loose axis or a centre off the sphere.
 fn some_unfit(frame: &[f64]) -> bool
     requires { ⌜ length (now frame) ≡ 180 ⌝ }
@@ -161,14 +192,30 @@ fn some_unfit(frame: &[f64]) -> bool
     found
 }
 
-// Whether the frame is refused. An entry asks once; what stands below asks that the answer was no.
+fn some_doubtful(frame: &[f64]) -> bool
+    requires { ⌜ length (now frame) ≡ 180 ⌝ }
+    ensures { λ r. ⌜ r ≡ someBelow (doubtful (now (frame .entry))) 20 ⌝ }
+{
+    let mut found = false;
+    let mut face = 0u32;
+    while face < 20 {
+        found = found | doubtful(frame, face);
+        face += 1;
+    }
+    found
+}
+
+// Whether the frame is refused. An entry asks once; what stands below asks that the answer was no. Only a frame with a doubtful face is tested part by part.
 pub fn bad_frame(frame: &[f64]) -> bool
     ensures { λ r. ⌜ r ≡ badFrame (now (frame .entry)) ⌝ }
 {
     if frame.len() != 180 {
         return true;
     }
-    some_unfit(frame)
+    if some_doubtful(frame) {
+        return some_unfit(frame);
+    }
+    false
 }
 
 impl Nearest {
@@ -193,46 +240,93 @@ fn distance_to(frame: &[f64], face: u32, p: Vec3d) -> f64
     away.dot(away)
 }
 
-// The nearer one of a face and the next.
-fn pair_at(frame: &[f64], face: u32, p: Vec3d) -> Nearest
-    requires { ⌜ (face ≤ 18) × (9 * face + 18 ≤ length (now frame)) ⌝ }
-    ensures { λ r. ⌜ r ≡ pairOf (now (frame .entry)) p face ⌝ }
+// Each face's squared distance from a vector.
+fn distances(frame: &[f64], p: Vec3d) -> [f64; 20]
+    requires { ⌜ length (now frame) ≡ 180 ⌝ }
+    ensures { λ r. ⌜ Distances (now (frame .entry)) p r ⌝ }
 {
-    let first = Nearest {
-        face,
-        distance: distance_to(frame, face, p),
-    };
-    let next = face + 1;
-    first.closer(next, distance_to(frame, next, p))
+    let mut far = [0.0; 20];
+    let mut face = 0u32;
+    while face < 20 {
+        far[face as usize] = distance_to(frame, face, p);
+        face += 1;
+    }
+    far
 }
 
-// The nearest face of a frame that has passed, of a vector that has. Public for `locate`, which tests frame and vector itself. Two faces are compared with
-// each other before the nearer one is compared with the best so far, which halves the comparisons that wait for one another.
-pub fn nearest_of(frame: &[f64], p: Vec3d) -> Nearest
-    requires { ⌜ badFrame (now frame) ≡ false ⌝ }
-    ensures { λ r. ⌜ (vectorVerdict p ≡ Fine → r ≡ nearestTo (now (frame .entry)) p 19) ⌝ }
+// The nearer one of a face and the next.
+fn pair_at(far: [f64; 20], face: u32) -> Nearest
+    requires { ⌜ face ≤ 18 ⌝ }
+    ensures { λ r. ⌜ r ≡ pairOf (at far) face ⌝ }
 {
-    let mut best = pair_at(frame, 0, p);
+    let at = face as usize;
+    let first = Nearest {
+        face,
+        distance: far[at],
+    };
+    first.closer(face + 1, far[at + 1])
+}
+
+// The nearest of twenty faces by their squared distances, which are numbers. Two faces are compared with each other before the nearer one is compared with
+// the best so far, which halves the comparisons that wait for one another.
+fn least(far: [f64; 20]) -> Nearest
+    ensures { λ r. ⌜ (((k : ℕ) → k < 20 → finite (at far k) ≡ true) → r ≡ nearestBy (at far) 19) ⌝ }
+{
+    let mut best = pair_at(far, 0);
     let mut last = 1u32;
     while last < 19 {
         let face = last + 1;
-        let pair = pair_at(frame, face, p);
+        let pair = pair_at(far, face);
         best = best.closer(pair.face, pair.distance);
         last = face + 1;
     }
     best
 }
 
-// The face nearest to a unit vector, and its squared distance.
+// The nearest face of a frame that has passed, of a vector that has. Public for `locate`, which tests frame and vector itself.
+pub fn nearest_of(frame: &[f64], p: Vec3d) -> Nearest
+    requires { ⌜ badFrame (now frame) ≡ false ⌝ }
+    ensures { λ r. ⌜ (vectorVerdict p ≡ Fine → r ≡ nearestTo (now (frame .entry)) p 19) ⌝ }
+{
+    least(distances(frame, p))
+}
+
+// The nearest face of a vector, and in the same pass whether a face is doubtful: each centre is read once for both.
+fn look(frame: &[f64], p: Vec3d) -> Looked
+    requires { ⌜ length (now frame) ≡ 180 ⌝ }
+    ensures { λ r. ⌜ (r .doubt ≡ someBelow (doubtful (now (frame .entry))) 20) × NearestIf (now (frame .entry)) p (r .nearest) ⌝ }
+{
+    let mut far = [0.0; 20];
+    let mut doubt = false;
+    let mut face = 0u32;
+    while face < 20 {
+        doubt = doubt | doubtful(frame, face);
+        far[face as usize] = distance_to(frame, face, p);
+        face += 1;
+    }
+    Looked {
+        doubt,
+        nearest: least(far),
+    }
+}
+
+// The face nearest to a unit vector, and its squared distance. Only a frame with a doubtful face is tested part by part.
 pub fn nearest_face(frame: &[f64], p: Vec3d) -> NearestFace
     ensures { λ r. ⌜ saidNearest r ≡ nearestReply (now (frame .entry)) p ⌝ }
 {
-    if bad_frame(frame) {
+    if frame.len() != 180 {
         return NearestFace::Refused(Refusal::BadFrame);
+    }
+    let looked = look(frame, p);
+    let nearest = looked.nearest;
+    if looked.doubt {
+        if some_unfit(frame) {
+            return NearestFace::Refused(Refusal::BadFrame);
+        }
     }
     let verdict = p.verdict();
     match verdict {
-        Verdict::Fine => NearestFace::Done(nearest_of(frame, p)),
+        Verdict::Fine => NearestFace::Done(nearest),
         Verdict::Refused(refusal) => NearestFace::Refused(refusal),
     }
 }

@@ -1,16 +1,16 @@
 -- `pair_at` meets its contract. Assumes nothing.
 use borrow.Author.Needs.{needs}
 use native.Mathlib.Numerals.{add-one}
-use native.Mathlib.Omega.{arith}
 use Rattle.vec3d.specs.Nearest.{pairOf}
 use Rattle.vec3d.proofs.pair_at.Statement.{statement}
 use Rattle.vec3d.proofs.pair_at.Tie as tie
 
 returns : tie.Need-returns
 unfolding pairOf
-returns c = rw (c .closer .ensures, c .before .distance-to2 .ensures, c .before .before .distance-to .ensures, add-one)
+returns c = rw (c .closer .ensures, add-one)
 
 pub pair-at-spec : {M : Type 1} → statement M
 pair-at-spec =
     tie.close
-    (tie.spec (λ c κs. search needs) (λ c. search needs) (λ c κs. search needs) (λ c κs. search needs) returns)
+    (tie.spec (λ c. search needs) (λ c. search needs) (λ c. search needs) (λ c. search needs) (λ c. search needs) (λ c. search
+    needs) (λ c κs. search needs) returns)
