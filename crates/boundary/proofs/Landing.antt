@@ -15,12 +15,9 @@ use Rattle.faceijk.specs.declared.Landed.{Landed}
 use Rattle.faceijk.specs.declared.Overage.{Overage}
 use Rattle.faceijk.specs.declared.Overage.the-variants.{None, FaceEdge}
 use Rattle.faceijk.specs.Places.{coordOf, sumAt, QAt, Okay}
-use Rattle.faceijk.specs.Steps.{stepOf}
 use Rattle.faceijk.specs.Crossing.{onEdge, stepOut, landed, crossingOf, settleFrom}
-use Rattle.faceijk.specs.Entries.{badEdge}
 use Rattle.faceijk.specs.Walking.{Walk, rest, over}
-use Rattle.faceijk.proofs.Faces.{mate-over}
-use Rattle.faceijk.proofs.Taking.{sound-at, edge-low}
+use Rattle.faceijk.proofs.Taking.{sound-at}
 use Rattle.faceijk.proofs.Settling.{walks, okay-out}
 use Rattle.boundary.specs.declared.Shape.{Shape}
 use Rattle.boundary.specs.Corners.{offsetOf, cornerOf, Upto}
@@ -110,8 +107,3 @@ pub last-face : (s : Shape) (k : ℕ) (x : Landed) → x ≡ lastAt s k → Fit 
 unfolding lastAt
 last-face s zero x e f = rw e (f .solid .on)
 last-face s (suc k) x e f = rw e (land-okay s k f .on)
-
--- a step over a good edge stays on the twenty faces
-pub step-face : (p q : Place) (d u : ℕ) → q ≡ stepOf p d u → p .face < 20 → badEdge d ≡ false → q .face < 20
-unfolding stepOf
-step-face p q d u e on good = let l = edge-low d good in rw e (mate-over d (l .0) (l .1) (p .face) on .over)

@@ -9,11 +9,12 @@ ghost use Rattle.level.specs.Levels.{badGrid, raisedOf, gridOf, Sound};
 ghost use Rattle.coordijk.specs.Coordinates.{Taken, coord};
 ghost use Rattle.coordijk.specs.Maps.{mapOf};
 ghost use Rattle.coordijk.specs.declared.GridMap.the-variants.{Aperture7Cw};
+ghost use Rattle.vec2d.specs.Centre.{centreOf};
 ghost use Rattle.faceijk.specs.Places.{place, coordOf, Okay};
 ghost use Rattle.faceijk.specs.Faces.{dirTo};
 ghost use Rattle.boundary.specs.Corners.{classIII, throughApertures, digitOf, offsetOf, cornerOf, sixCorners, saidCorners, cornersReply, cellVerdict, rangeVerdict, Upto};
 ghost use Rattle.boundary.specs.Landing.{cellOf, substrateOf, cornerPlace, vertexOf, landAt};
-ghost use Rattle.boundary.specs.CrossingPoints.{pointOn, cornerPoint, edgeLine, pointed, crossAt, unlessCorner, isFaceEdge, awayFace, hexagonCrossing, takenOver, pentagonCrossing, beforeFrom};
+ghost use Rattle.boundary.specs.CrossingPoints.{pointOn, cornerPoint, edgeLine, pointed, crossAt, unlessCorner, isFaceEdge, awayFace, hexagonCrossing, pentagonCrossing, beforeFrom};
 ghost use Rattle.boundary.specs.Boundaries.{pointsTo, verdictTo, boundaryOf, turnsFor, withinOf, saidBoundary, boundaryReply, Solid, Fit, Deep};
 use coordijk::CoordIJK;
 use faceijk::Landed;
@@ -137,17 +138,17 @@ fn grid_level(level: CellLevel) -> GridLevel
     }
 }
 
-fn grid_at(level: GridLevel, substrate: bool) -> Grid
+fn plain_grid(level: GridLevel) -> Grid
     requires { ⌜ badGrid (level .0) ≡ false ⌝ }
-    ensures { λ r. ⌜ r ≡ gridOf (level .0) substrate ⌝ }
+    ensures { λ r. ⌜ r ≡ gridOf (level .0) false ⌝ }
 {
-    let gridded = level.grid(substrate);
+    let gridded = level.grid(false);
     match gridded {
         Gridded::Done(grid) => grid,
         Gridded::Refused(_) => Grid {
             unit: 0,
             limit: 0,
-            substrate,
+            substrate: false,
         },
     }
 }
@@ -168,7 +169,7 @@ fn digits(i: u32, j: u32, k: u32, v: usize) -> CoordIJK
 }
 
 impl Cell {
-    // The cell of a centre at a cell level.
+    // The cell of a centre at a cell level. The substrate grid is the plain grid threefold, so the level is looked up once.
     fn made(centre: Place, level: CellLevel) -> Cell
         requires { ⌜ Taken (coordOf centre) × (level .0 ≤ 15) ⌝ }
         ensures { λ r. ⌜ r ≡ cellOf centre (level .0) ⌝ }
@@ -176,11 +177,15 @@ impl Cell {
         let odd = is_odd(level);
         let c = through_apertures(centre.coord(), odd);
         let grid = grid_level(level);
-        let plain = grid_at(grid, false);
+        let plain = plain_grid(grid);
         Cell {
             centre: Place::new(centre.face, c.i, c.j, c.k),
             level: grid,
-            grid: grid_at(grid, true),
+            grid: Grid {
+                unit: 3 * plain.unit,
+                limit: 3 * plain.limit,
+                substrate: true,
+            },
             m: plain.limit,
             odd,
         }
@@ -356,25 +361,19 @@ impl Cell {
         cross_at(self.m, home, a, b, edge).unless_corner(a, b)
     }
 
-    // The crossing point between two corners of a pentagon, the second stepped over to the face of the first.
-    fn pentagon_crossing(self, last: Place, now: Place) -> Before
-        requires { ⌜ Okay now × (self .grid ≡ substrateOf (self .level)) × Sound (self .grid) ⌝ }
+    // The crossing point between two corners of a pentagon, the second stepped over to the face of the first, whose point there is a.
+    fn pentagon_crossing(self, last: Place, a: Vec2d, now: Place) -> Before
+        requires { ⌜ Okay now × (self .grid ≡ substrateOf (self .level)) × Sound (self .grid) × (a ≡ centreOf (coordOf last)) ⌝ }
         ensures { λ r. ⌜ r ≡ pentagonCrossing self last now ⌝ }
     {
         let edge = edge_to(now.face, last.face);
         if (edge < 1) | (3 < edge) {
             return Before::Refused(Refusal::NotAdjacent);
         }
-        self.taken_over(last, now.face, now.over(edge, self.grid))
-    }
-
-    fn taken_over(self, last: Place, now: u32, over: Place) -> Before
-        requires { ⌜ over .face < 20 ⌝ }
-        ensures { λ r. ⌜ r ≡ takenOver self last now over ⌝ }
-    {
-        let a = Vec2d::from_ijk(last.coord());
+        let back = faceijk::back_edge(now.face, edge);
+        let over = now.over(edge, self.grid);
         let b = Vec2d::from_ijk(over.coord());
-        cross_at(self.m, over.face, a, b, edge_to(over.face, now))
+        cross_at(self.m, over.face, a, b, back)
     }
 }
 
@@ -492,16 +491,16 @@ impl Shape {
             .hexagon_crossing(last, now.place.face, self.vertex(k))
     }
 
-    // What stands before a pentagon's corner at turn k.
-    fn pentagon_before(self, k: u32, last: Landed, now: Landed) -> Before
-        requires { ⌜ Fit self × Okay (now .place) × (self .sides ≡ 5) ⌝ }
+    // What stands before a pentagon's corner at turn k; a is the last corner's point.
+    fn pentagon_before(self, k: u32, last: Landed, a: Vec2d, now: Landed) -> Before
+        requires { ⌜ Fit self × Okay (now .place) × (self .sides ≡ 5) × (0 < k → a ≡ centreOf (coordOf (last .place))) ⌝ }
         ensures { λ r. ⌜ r ≡ beforeFrom self k last now ⌝ }
     {
         let class_three = self.cell.odd;
         if (k == 0) | !class_three {
             return Before::Nothing;
         }
-        self.cell.pentagon_crossing(last.place, now.place)
+        self.cell.pentagon_crossing(last.place, a, now.place)
     }
 
     // The points of so many turns round a hexagon, or the refusal of the first crossing point needed. A turn past all corners only looks for a
@@ -543,7 +542,8 @@ impl Shape {
         }
     }
 
-    // The same round a pentagon. The two walks stand apart, as in the source: joined, neither would be compiled into its entry.
+    // The same round a pentagon; a corner's point is kept for the line that leaves it. The two walks stand apart, as in the source: joined,
+    // neither would be compiled into its entry.
     fn pentagon_walk(self, turns: u32) -> Boundary
         requires { ⌜ Fit self × (turns ≤ self .sides + 1) × (self .sides ≡ 5) ⌝ }
         ensures { λ r. ⌜ r ≡ boundaryOf (verdictTo self turns) (pointsTo self turns) ⌝ }
@@ -555,10 +555,11 @@ impl Shape {
             place: centre,
             overage: Overage::None,
         };
+        let mut at = Vec2d::new(0.0, 0.0);
         let mut k = 0u32;
         while k < turns {
             let now = self.settled(k);
-            let found = self.pentagon_before(k, last, now);
+            let found = self.pentagon_before(k, last, at, now);
             match found {
                 Before::Nothing => {}
                 Before::Point(point) => {
@@ -567,8 +568,9 @@ impl Shape {
                 }
                 Before::Refused(refusal) => return Boundary::refused(refusal),
             }
+            at = Vec2d::from_ijk(now.place.coord());
             if k < 5 {
-                points[count] = BoundaryPoint::corner(now.place);
+                points[count] = BoundaryPoint::on(now.place.face, at, BoundaryPoint::CORNER);
                 count += 1;
             }
             last = now;

@@ -44,10 +44,11 @@ mul-plus (fin false m e) (inf t) f g p q = absurd (false≢true g)
 mul-plus (fin false m e) (fin true n d) f g p q = signed n d q
 mul-plus (fin false m e) (fin false n d) f g p q = round-size false (m * up e * (n * up d)) (down e * down d)
 
--- A sum is also where there is a NaN or an infinity.
+-- The infinity below zero is not its own size either.
 minus-inf : {A : Type 0} → sizeOf (inf true) ≡ inf true → A
 minus-inf h = absurd (false≢true (cc))
 
+-- A sum keeps the sign clear whatever is added, a NaN or an infinity too.
 pub add-plus : (x y : Float) → sizeOf x ≡ x → sizeOf y ≡ y → sizeOf (add binary64 x y) ≡ add binary64 x y
 unfolding add sum
 add-plus nan y p q = refl
@@ -63,7 +64,7 @@ add-plus (fin false m e) (inf false) p q = refl
 add-plus (fin false m e) (fin true n d) p q = signed n d q
 add-plus (fin false m e) (fin false n d) p q = round-size false (m * up e * down d + n * up d * down e) (down e * down d)
 
--- So is a square of anything.
+-- A square has it clear, whatever is squared.
 pub square-plus : (x : Float) → sizeOf (mul binary64 x x) ≡ mul binary64 x x
 unfolding mul
 square-plus nan = refl

@@ -34,7 +34,7 @@ twoAndHalf = ofBits binary64 0x4004_0000_0000_0000
 abbrev pub three : Float
 three = ofBits binary64 0x4008_0000_0000_0000
 
--- 3 · 3: squares that sum to less are of parts below 3
+-- 3 · 3: squares that sum to less are those of parts below 3
 abbrev pub nine : Float
 nine = ofBits binary64 0x4022_0000_0000_0000
 

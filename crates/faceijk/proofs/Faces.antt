@@ -5,6 +5,7 @@ use Prim.Native.Nat.{ℕ, zero, suc, _-_, _≤_, _<_}
 use native.Mathlib.Nat.{not-suc-le-zero}
 use native.Mathlib.Omega.{arith}
 use lib.Dec.{T, eqb, ltb, eqb→eq, ltb→lt}
+use borrow.Author.Tests.{ltb-true}
 use Rattle.reply.specs.Choice.{pick}
 use Rattle.level.proofs.Computed.{left, right, all, at}
 use Rattle.faceijk.specs.Faces.{faceOver, dirTo}
@@ -12,7 +13,7 @@ use Rattle.faceijk.specs.Steps.{polar}
 
 -- the edge of the face over edge e that leads back
 abbrev pub backOver : ℕ → ℕ → ℕ
-backOver f e = pick (eqb e 3) 3 (pick (polar f) (3 - e) e)
+backOver f e = pick (ltb e 3 && polar f) (3 - e) e
 
 -- the face g over edge e is another of the twenty, its edge b leads back, and over IJ and KI the two faces stand in one row of the step table
 pub record Mate (f e g b : ℕ) : Type 0 where
@@ -72,16 +73,9 @@ neighbour-of-neighbour f e on l h = let m = mate-over e l h f on in rw (m .back)
 
 -- the edge that leads back is one of the three
 pub back-range : (f e : ℕ) → 1 ≤ e → e ≤ 3 → (1 ≤ backOver f e) × (backOver f e ≤ 3)
-back-range f zero l h = absurd (not-suc-le-zero l)
-back-range f (suc zero) l h = go (polar f)
+back-range f e l h = go (ltb e 3) (polar f) (ltb-true e 3)
   where
-    go : (b : Bool) → (1 ≤ pick b 2 1) × (pick b 2 1 ≤ 3)
-    go true = omega arith
-    go false = omega arith
-back-range f (suc (suc zero)) l h = go (polar f)
-  where
-    go : (b : Bool) → (1 ≤ pick b 1 2) × (pick b 1 2 ≤ 3)
-    go true = omega arith
-    go false = omega arith
-back-range f (suc (suc (suc zero))) l h = omega arith
-back-range f (suc (suc (suc (suc e)))) l h = absurd (omega arith)
+    go : (a b : Bool) → (a ≡ true → e < 3) → (1 ≤ pick (a && b) (3 - e) e) × (pick (a && b) (3 - e) e ≤ 3)
+    go true true t = omega (arith, t refl)
+    go true false t = omega arith
+    go false b t = omega arith

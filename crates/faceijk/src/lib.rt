@@ -139,12 +139,14 @@ fn faces_over(edge: u32, low: bool) -> u64
     507299344500239
 }
 
+// The place in the word is the face's remainder by ten, without the multiplication that settling would wait for at each step.
 fn face_over(face: u32, edge: u32) -> u32
     requires { ⌜ (face < 20) × (1 ≤ edge) × (edge ≤ 3) ⌝ }
     ensures { λ r. ⌜ r ≡ faceOver face edge ⌝ }
 {
-    let word = faces_over(edge, face < 10);
-    ((word >> (5 * (face % 10))) % 32) as u32
+    let low = face < 10;
+    let at = if low { face } else { face - 10 };
+    ((faces_over(edge, low) >> (5 * at)) % 32) as u32
 }
 
 fn is_polar(face: u32) -> bool
@@ -171,6 +173,19 @@ pub fn direction_to(from: u32, to: u32) -> Direction
         return Direction::OverJK;
     }
     Direction::Elsewhere
+}
+
+// The edge that leads back from the face over an edge, without a search: among the faces about a pole IJ and KI lead back over each other,
+// any other edge over itself. Public for boundaries, as `Place::over`.
+pub fn back_edge(face: u32, edge: u32) -> u32
+    requires { ⌜ (face < 20) × (1 ≤ edge) × (edge ≤ 3) ⌝ }
+    ensures { λ r. ⌜ r ≡ dirTo (faceOver face edge) face ⌝ }
+{
+    if (edge < 3) & is_polar(face) {
+        3 - edge
+    } else {
+        edge
+    }
 }
 
 // The direction from one face to another.

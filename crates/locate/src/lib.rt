@@ -69,8 +69,8 @@ fn on_nearest(frame: &[f64], level: u32, face: u32, p: Vec3d) -> Located
     }
 }
 
-// The place of any vector, with a frame and a level that have passed and the face nearest to it. Its parts stand apart, so that they come in registers: a vector read back from
-// memory at once costs a tenth more.
+// The place of any vector, with a frame and a level that have passed, and the face that is nearest to the vector if it passes. Its parts stand apart, so
+// that they come in registers: a vector read back from memory at once costs a tenth more.
 fn place_of(frame: &[f64], level: u32, face: u32, x: f64, y: f64, z: f64) -> Located
     requires { ⌜ Passed (now frame) level ×
         (vectorVerdict (record { x = x; y = y; z = z }) ≡ Fine → face ≡ nearFace (now frame) (record { x = x; y = y; z = z })) ⌝ }

@@ -52,7 +52,7 @@ impl Vec3d {
     // How far from 1 the dot product of a unit vector with itself may be: 2^-40.
     pub const TOLERANCE: f64 = 0.0000000000009094947017729282379150390625;
 
-    // Half of it: 2^-41.
+    // Half of it, 2^-41: nearer to 1 than that a square is beyond doubt.
     const CERTAIN: f64 = 0.00000000000045474735088646411895751953125;
 
     // How large a part of u or v may be.
@@ -157,7 +157,7 @@ fn unfit(frame: &[f64], face: u32) -> bool
     u.loose() | v.loose() | centre.off_sphere()
 }
 
-// Whether a unit vector's square is near to 1 beyond doubt: half of what the test of 7 allows, so that one rounding decides nothing.
+// Whether a square is 1 beyond doubt: it differs by at most half of what a unit vector's may, so that the rounding of the difference decides nothing.
 fn is_unit(square: f64) -> bool
     ensures { λ r. ⌜ r ≡ nearOne square ⌝ }
 {
@@ -165,8 +165,8 @@ fn is_unit(square: f64) -> bool
     (-Vec3d::CERTAIN <= off) & (off <= Vec3d::CERTAIN)
 }
 
-// Whether a face is not fit beyond doubt. A sum of squares below 9 has no part of 3 or more: three sums of squares take less time than
-// the tests of six parts, and a frame that is an icosahedron passes.
+// Whether a face is not fit beyond doubt: squares that sum to less than 9 are of no part of 3 or more. Every face of an icosahedron passes, and the three
+// sums take less time than the tests of the parts.
 fn doubtful(frame: &[f64], face: u32) -> bool
     requires { ⌜ 9 * face + 9 ≤ length (now frame) ⌝ }
     ensures { λ r. ⌜ r ≡ doubtful (now (frame .entry)) face ⌝ }
@@ -205,7 +205,8 @@ fn some_doubtful(frame: &[f64]) -> bool
     found
 }
 
-// Whether the frame is refused. An entry asks once; what stands below asks that the answer was no. Only a frame with a doubtful face is tested part by part.
+// Whether the frame is refused. An entry asks once; what stands below asks that the answer was no. Only a frame with a doubtful face is tested
+// part by part.
 pub fn bad_frame(frame: &[f64]) -> bool
     ensures { λ r. ⌜ r ≡ badFrame (now (frame .entry)) ⌝ }
 {
@@ -267,8 +268,8 @@ fn pair_at(far: [f64; 20], face: u32) -> Nearest
     first.closer(face + 1, far[at + 1])
 }
 
-// The nearest of twenty faces by their squared distances, which are numbers. Two faces are compared with each other before the nearer one is compared with
-// the best so far, which halves the comparisons that wait for one another.
+// The nearest of twenty faces by their squared distances, if these are numbers. Two faces are compared with each other before the nearer one is
+// compared with the best so far, which halves the comparisons that wait for one another.
 fn least(far: [f64; 20]) -> Nearest
     ensures { λ r. ⌜ (((k : ℕ) → k < 20 → finite (at far k) ≡ true) → r ≡ nearestBy (at far) 19) ⌝ }
 {
@@ -283,7 +284,8 @@ fn least(far: [f64; 20]) -> Nearest
     best
 }
 
-// The nearest face of a frame that has passed, of a vector that has. Public for `locate`, which tests frame and vector itself.
+// The nearest face of a frame that has passed. It asks that the vector passes too: of one that does not, it promises nothing about the face it names.
+// Public for `locate`, which tests frame and vector itself.
 pub fn nearest_of(frame: &[f64], p: Vec3d) -> Nearest
     requires { ⌜ badFrame (now frame) ≡ false ⌝ }
     ensures { λ r. ⌜ (vectorVerdict p ≡ Fine → r ≡ nearestTo (now (frame .entry)) p 19) ⌝ }
@@ -310,7 +312,7 @@ fn look(frame: &[f64], p: Vec3d) -> Looked
     }
 }
 
-// The face nearest to a unit vector, and its squared distance. Only a frame with a doubtful face is tested part by part.
+// The face nearest to a unit vector, and its squared distance. As in `bad_frame`, only a frame with a doubtful face is tested part by part.
 pub fn nearest_face(frame: &[f64], p: Vec3d) -> NearestFace
     ensures { λ r. ⌜ saidNearest r ≡ nearestReply (now (frame .entry)) p ⌝ }
 {

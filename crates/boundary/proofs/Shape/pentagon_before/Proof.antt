@@ -1,7 +1,9 @@
 -- `Shape::pentagon_before` meets its contract: each return by its tests. Assumes nothing.
-use borrow.Author.Needs.{needs}
+use borrow.Author.Tests.{eqb-false}
 use mathlib.Core.Bool.{true}
 use mathlib.Core.Path.{_∙_}
+use native.Mathlib.Omega.{arith}
+use Rattle.reply.proofs.Entries.{neither}
 use Rattle.faceijk.proofs.Taking.{sound-at}
 use Rattle.boundary.proofs.Needed.{not-needed, pentagon-needed}
 use Rattle.boundary.proofs.Shape.pentagon_before.Statement.{statement}
@@ -14,7 +16,8 @@ pentagon-crossing-requires : tie.Need-pentagon-crossing-requires
 pentagon-crossing-requires c κs =
     let a = c .before in
     let s = a .pre .0 .solid in
-    (a .pre .1, s .grid, rw (s .grid) (sound-at (a .args .self .cell .level .0) true (s .level)))
+    let later = eqb-false (a .args .k) 0 (neither _ _ (c .if1 .left) .0) in
+    (a .pre .1, s .grid, rw (s .grid) (sound-at (a .args .self .cell .level .0) true (s .level)), a .pre .3 (omega arith))
 
 returns-2 : tie.Need-returns-2
 returns-2 c =
