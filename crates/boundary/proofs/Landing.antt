@@ -1,5 +1,5 @@
 -- Where corners land: on a face that their crossings reach, as a place that is taken. Assumes nothing.
-use mathlib.Core.Path.{_≡_, refl}
+use mathlib.Core.Path.{_≡_, refl, ap}
 use mathlib.Core.Bool.{Bool, true, false}
 use Prim.Native.Nat.{ℕ, zero, suc, _+_, _≤_, _<_, max}
 use native.Mathlib.Nat.{mod-lt}
@@ -29,6 +29,11 @@ use Rattle.boundary.proofs.Apertures.{offset-small}
 unfoldable pub lastAt : Shape → ℕ → Landed
 lastAt s zero = landed (s .cell .centre) None
 lastAt s (suc k) = landAt s k
+
+-- after a pentagon's last corner comes its first again
+pub first-again : (s : Shape) → s .sides ≡ 5 → landAt s 5 ≡ landAt s 0
+unfolding landAt
+first-again s five = ap (λ (v : ℕ). landFrom (s .sides) (substrateOf (s .cell .level)) (cornerPlace (s .cell) v)) (rw five (omega arith))
 
 -- the corner of every turn is one of the sides
 pub vertex-low : (s : Shape) (k : ℕ) → Solid s → vertexOf s k < 6

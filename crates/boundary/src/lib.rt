@@ -12,6 +12,8 @@ ghost use Rattle.coordijk.specs.declared.GridMap.the-variants.{Aperture7Cw};
 ghost use Rattle.vec2d.specs.Centre.{centreOf};
 ghost use Rattle.faceijk.specs.Places.{place, coordOf, Okay};
 ghost use Rattle.faceijk.specs.Faces.{dirTo};
+ghost use Rattle.faceijk.specs.Crossing.{landed};
+ghost use Rattle.faceijk.specs.declared.Overage.the-variants.{None};
 ghost use Rattle.boundary.specs.Corners.{classIII, throughApertures, digitOf, offsetOf, cornerOf, sixCorners, saidCorners, cornersReply, cellVerdict, rangeVerdict, Upto};
 ghost use Rattle.boundary.specs.Landing.{cellOf, substrateOf, cornerPlace, vertexOf, landAt};
 ghost use Rattle.boundary.specs.CrossingPoints.{pointOn, cornerPoint, edgeLine, pointed, crossAt, unlessCorner, isFaceEdge, awayFace, hexagonCrossing, pentagonCrossing, beforeFrom};
@@ -435,6 +437,16 @@ fn turns_for(sides: u32, length: u32) -> u32
     length
 }
 
+// A pentagon's landing, whose overage is never asked for.
+fn rested(place: Place) -> Landed
+    ensures { λ r. ⌜ r ≡ landed place None ⌝ }
+{
+    Landed {
+        place,
+        overage: Overage::None,
+    }
+}
+
 impl Shape {
     // The number of the corner at turn k.
     fn vertex(self, k: u32) -> usize
@@ -471,11 +483,15 @@ impl Shape {
         requires { ⌜ Fit self × (k ≤ self .sides) × (self .sides ≡ 5) ⌝ }
         ensures { λ r. ⌜ r ≡ landAt self k ⌝ }
     {
-        let place = self.corner(k).settled(self.cell.grid).place;
-        Landed {
-            place,
-            overage: Overage::None,
-        }
+        rested(self.corner(k).settled(self.cell.grid).place)
+    }
+
+    // The same at any turn: after the last corner comes the first again, which the walk has kept.
+    fn settled_once(self, k: u32, first: Landed) -> Landed
+        requires { ⌜ Fit self × (k ≤ self .sides) × (self .sides ≡ 5) × (0 < k → first ≡ landAt self 0) ⌝ }
+        ensures { λ r. ⌜ r ≡ landAt self k ⌝ }
+    {
+        if k < 5 { self.settled(k) } else { first }
     }
 
     // What stands before a hexagon's corner at turn k.
@@ -542,8 +558,8 @@ impl Shape {
         }
     }
 
-    // The same round a pentagon; a corner's point is kept for the line that leaves it. The two walks stand apart, as in the source: joined,
-    // neither would be compiled into its entry.
+    // The same round a pentagon; the first corner and the last one's point are kept, as both are needed again. The two walks stand apart, as in
+    // the source: joined, neither would be compiled into its entry.
     fn pentagon_walk(self, turns: u32) -> Boundary
         requires { ⌜ Fit self × (turns ≤ self .sides + 1) × (self .sides ≡ 5) ⌝ }
         ensures { λ r. ⌜ r ≡ boundaryOf (verdictTo self turns) (pointsTo self turns) ⌝ }
@@ -551,14 +567,15 @@ impl Shape {
         let mut points = [BoundaryPoint::UNUSED; 12];
         let mut count: usize = 0;
         let centre = self.cell.centre;
-        let mut last = Landed {
-            place: centre,
-            overage: Overage::None,
-        };
+        let mut last = rested(centre);
+        let mut first = last;
         let mut at = Vec2d::new(0.0, 0.0);
         let mut k = 0u32;
         while k < turns {
-            let now = self.settled(k);
+            let now = self.settled_once(k, first);
+            if k == 0 {
+                first = now;
+            }
             let found = self.pentagon_before(k, last, at, now);
             match found {
                 Before::Nothing => {}

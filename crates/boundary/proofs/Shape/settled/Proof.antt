@@ -19,7 +19,7 @@ returns : tie.Need-returns
 unfolding landAt landFrom
 returns c =
     let b = c .before .before in
-    rw (c .before .settled .ensures, b .corner .ensures, b .before .pre .0 .solid .grid, b .before .pre .2)
+    rw (c .rested .ensures, c .before .settled .ensures, b .corner .ensures, b .before .pre .0 .solid .grid, b .before .pre .2)
 
 pub settled-spec : {M : Type 1} → statement M
-settled-spec = tie.close (tie.spec (λ c κs. search needs) settled-requires returns)
+settled-spec = tie.close (tie.spec (λ c κs. search needs) settled-requires (λ c κs. search needs) returns)
