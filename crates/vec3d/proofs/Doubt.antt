@@ -1,6 +1,6 @@
 -- A frame without a doubtful face passes document 01's test: three sums of squares say enough of each face. Assumes nothing.
-use mathlib.Core.Path.{_≡_, refl, sym, ap, subst, _∙_}
-use mathlib.Core.Bool.{Bool, true, false, not, _&&_, cond, true≢false, false≢true}
+use mathlib.Core.Path.{_≡_, refl, _∙_}
+use mathlib.Core.Bool.{Bool, true, false, not, _&&_, cond, false≢true}
 use mathlib.Core.List.{List}
 use Prim.Native.Nat.{ℕ, _+_, _-_, _*_, _^_, _≤_, _<_}
 use native.Mathlib.Nat.{le-trans, lt-irrefl}
@@ -8,21 +8,19 @@ use native.Mathlib.Omega.{arith}
 use lib.IntN.{ℤ}
 use lib.Dec.{T, ltb, leb, leb→le, nleb→lt, ltb→lt, nltb→le, lit<, lit≤}
 use lib.ListN.{length}
-use lib.Ieee.{Float, nan, inf, fin, binary64, ofBits, up, down, round, sum, add, sub, neg, mul, lt, eq, le}
-use lib.Ieee.Bits.{is-true}
+use lib.Ieee.{Float, nan, inf, fin, binary64, ofBits, up, down, round, sum, add, sub, neg, lt, eq, le}
 use lib.Ieee.Fits.{down-pos}
 use lib.Ieee.Exact.{HasValue, round-exact}
 use lib.Ieee.Order.{round-mono, le-of-values}
 use lib.Ieee.Positive.{positive, positive-of-value, values-of-le, le-trans-positive, between}
 use borrow.Author.Tests.{not-false}
-use Rattle.double.specs.Double.{finite, sizeOf, mulAdd, one, nine, sphereLow, sphereHigh}
-use Rattle.double.specs.Sizes.{Under}
-use Rattle.double.proofs.Sizes.{round-size, le-of-test}
+use Rattle.double.specs.Double.{sizeOf, mulAdd, nine, sphereLow, sphereHigh}
+use Rattle.double.proofs.Sizes.{round-size}
 use Rattle.double.proofs.Nonnegative.{signed, add-plus, square-plus}
 use Rattle.double.proofs.Tests.{holds, between-le}
 use Rattle.double.proofs.Squares.{nine-under, square-finite}
 use Rattle.vec3d.specs.declared.Vec3d.{Vec3d}
-use Rattle.vec3d.specs.Vectors.{dotOf, offSphere, narrow, loose, certain, nearOne}
+use Rattle.vec3d.specs.Vectors.{dotOf, offSphere, loose, certain, nearOne}
 use Rattle.vec3d.specs.Frame.{faceAt, someBelow, unfit, doubtful, badFrame}
 use Rattle.vec3d.proofs.Passing.{none-at}
 use Rattle.vec3d.proofs.OnePass.{both, parts-finite, under-narrow, none-below, by-faces}

@@ -1,7 +1,5 @@
 -- `Axial::fold` meets its contract: what the folds come to. Assumes nothing.
 use borrow.Author.Needs.{needs}
-use mathlib.Core.Path.{sym, _∙_}
-use native.Mathlib.Omega.{arith}
 use Rattle.vec2d.proofs.Folding.{folded, lesser-first, lesser-second, flattened}
 use Rattle.vec2d.proofs.Axial.fold.Statement.{statement}
 use Rattle.vec2d.proofs.Axial.fold.Tie as tie

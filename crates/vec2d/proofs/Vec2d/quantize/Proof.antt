@@ -1,5 +1,4 @@
 -- `Vec2d::quantize` meets its contract: both coordinates are from 0 up and small enough to be split. Assumes nothing.
-use borrow.Author.Needs.{needs}
 use Prim.Native.Nat.{_-_, _^_}
 use lib.Dec.{lit≤}
 use Rattle.double.proofs.Nonnegative.{upto-le}
