@@ -2,7 +2,7 @@
 use mathlib.Core.Path.{_≡_, refl}
 use mathlib.Core.List.{List, [], _∷_}
 use lib.Ieee.{Float, round, ofBits}
-use Rattle.double.specs.Double.{decimal, nought, half, one, oneAndHalf, two, twoAndHalf, three, nine, rsin60, sin60, limit, tolerance, sphereLow, sphereHigh}
+use Rattle.double.specs.Double.{decimal, nought, half, one, oneAndHalf, two, twoAndHalf, three, rsin60, sin60, limit, tolerance, sphereLow, sphereHigh}
 
 abbrev named : List Float
 named =
@@ -13,7 +13,6 @@ named =
     ∷ two
     ∷ twoAndHalf
     ∷ three
-    ∷ nine
     ∷ rsin60
     ∷ sin60
     ∷ limit
@@ -31,7 +30,6 @@ decimals =
     ∷ decimal 2 0
     ∷ decimal 25 1
     ∷ decimal 3 0
-    ∷ decimal 9 0
     ∷ decimal 11547005383792515 16
     ∷ decimal 8660254037844386 16
     ∷ decimal 33554432 0

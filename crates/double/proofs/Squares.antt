@@ -2,7 +2,7 @@
 use mathlib.Core.Path.{_≡_, refl, sym, ap, _∙_}
 use mathlib.Core.Bool.{Bool, true, false, not, true≢false, false≢true}
 use Prim.Native.Nat.{ℕ, _+_, _*_, _^_, _≤_, _<_, zero-le}
-use native.Mathlib.Nat.{le-trans, le-of-eq, le-of-lt, mul-le-mul, mul-le-mul-right, le-of-mul-le-mul-right, mul-comm, mul-assoc, mul-right-comm, mul-mul-mul-comm, mul-one, add-mul, mul-pos, zero-mul, lt-irrefl}
+use native.Mathlib.Nat.{le-trans, le-of-eq, le-of-lt, lt-of-lt-of-le, lt-of-le-of-lt, lt-of-mul-lt-mul-right, mul-le-mul, mul-le-mul-right, le-of-mul-le-mul-right, mul-comm, mul-assoc, mul-right-comm, mul-mul-mul-comm, mul-one, add-mul, mul-pos, zero-mul, lt-irrefl}
 use native.Mathlib.Omega.{arith}
 use lib.Dec.{T, leb, leb→le, nleb→lt, ltb→lt, lit<, lit≤}
 use lib.Ieee.{Float, nan, inf, fin, binary64, ofBits, up, down, unlike, round, sum, add, mul, lt, le}
@@ -11,14 +11,14 @@ use lib.Ieee.Exact.{HasValue}
 use lib.Ieee.Order.{round-mono}
 use lib.Ieee.Back.{round-whole}
 use lib.Ieee.Positive.{num, den}
-use Rattle.double.specs.Double.{finite, sizeOf, mulAdd, nine, sphereHigh}
+use Rattle.double.specs.Double.{finite, sizeOf, mulAdd, sphereHigh}
 use Rattle.double.specs.Sizes.{Under}
 use Rattle.double.proofs.Sizes.{round-size, le-of-test}
 use Rattle.double.proofs.Nonnegative.{add-plus, square-plus}
 use Rattle.double.proofs.Tests.{holds}
 
 -- at least k and not negative, an infinity included
-abbrev pub Over : ℕ → Float → Type 0
+abbrev Over : ℕ → Float → Type 0
 Over k nan = ⊥
 Over k (inf true) = ⊥
 Over k (inf false) = Unit
@@ -85,7 +85,7 @@ square-over k (fin s m e) t l h =
 square-low : (x : Float) → finite x ≡ true → Over 0 (mul binary64 x x)
 square-low x t = square-over 0 x t (le-trans (le-of-eq (zero-mul (den x))) zero-le) (lit≤ tt)
 
--- what is at least 4 is not at most 1 + 2^-40, and what is at least 9 is not below 9
+-- what is at least 4 is not at most 1 + 2^-40
 above-sphere : (x : Float) → Over 4 x → T (le x sphereHigh) → ⊥
 unfolding le ofBits
 above-sphere nan p q = p
@@ -94,13 +94,21 @@ above-sphere (inf false) p q = q
 above-sphere (fin true m e) p q = p
 above-sphere (fin false m e) p q = lt-irrefl 0 (omega (arith, le-of-test (m * up e * 2 ^ 40) ((2 ^ 40 + 1) * 1 * down e) true q, down-pos e))
 
-above-nine : (x : Float) → Over 9 x → T (lt x nine) → ⊥
-unfolding lt ofBits
-above-nine nan p q = p
-above-nine (inf true) p q = p
-above-nine (inf false) p q = q
-above-nine (fin true m e) p q = p
-above-nine (fin false m e) p q = lt-irrefl 0 (omega (arith, p, ltb→lt (m * up e * 1) (9 * 1 * down e) q))
+-- what is at least n is not below a number whose value is n
+not-below : (n : ℕ) (x y : Float) → HasValue y false n 1 → Over n x → T (lt x y) → ⊥
+unfolding lt
+not-below n x nan v p q = v
+not-below n x (inf s) v p q = v
+not-below n x (fin true k d) v p q = true≢false (v .0)
+not-below n nan (fin false k d) v p q = p
+not-below n (inf true) (fin false k d) v p q = p
+not-below n (inf false) (fin false k d) v p q = q
+not-below n (fin true m e) (fin false k d) v p q = p
+not-below n (fin false m e) (fin false k d) v p q =
+    let whole : k * up d ≡ n * down d = sym (mul-one (k * up d)) ∙ v .1 in
+    let l : m * up e * down d < n * down e * down d =
+    lt-of-lt-of-le (ltb→lt _ _ q) (le-of-eq (ap (λ (z : ℕ). z * down e) whole ∙ mul-right-comm n (down d) (down e))) in
+    lt-irrefl (n * down e) (lt-of-le-of-lt p (lt-of-mul-lt-mul-right (down d) l))
 
 module _ (x y z : Float) where
   abbrev square : Float
@@ -133,17 +141,19 @@ module _ (x y z : Float) where
   pub sphere-under : finite x ≡ true → finite y ≡ true → finite z ≡ true → le square sphereHigh ≡ true → Under 2 x × Under 2 y × Under 2 z
   sphere-under p q r h = parts-under 2 (lit≤ tt) (λ o. above-sphere square o (holds h)) p q r
 
-  -- Those of a vector whose squares sum to less than 9 are at most 3 in size.
-  pub nine-under : finite x ≡ true → finite y ≡ true → finite z ≡ true → lt square nine ≡ true → Under 3 x × Under 3 y × Under 3 z
-  nine-under p q r h = parts-under 3 (lit≤ tt) (λ o. above-nine square o (holds h)) p q r
+  -- Those of a vector whose squares sum to less than k · k are at most k in size.
+  pub below-under : (k : ℕ) (b : Float) → k * k ≤ 2 ^ 53 → HasValue b false (k * k) 1 → finite x ≡ true → finite y ≡ true → finite z ≡ true → lt square b ≡ true → Under k x × Under k y × Under k z
+  below-under k b K v p q r h = parts-under k K (λ o. not-below (k * k) square b v o (holds h)) p q r
 
-  -- Such a sum is a number: it is its own size, so no infinity below zero.
-  pub square-finite : lt square nine ≡ true → finite square ≡ true
-  unfolding mulAdd lt ofBits
-  square-finite h = go square (add-plus _ _ (square-plus x) (add-plus _ _ (square-plus y) (square-plus z))) h
+  -- A sum that is below a number is a number: it is its own size, so no infinity below zero.
+  pub below-finite : (b : Float) → finite b ≡ true → lt square b ≡ true → finite square ≡ true
+  unfolding mulAdd lt
+  below-finite b f h = go square (add-plus _ _ (square-plus x) (add-plus _ _ (square-plus y) (square-plus z))) b f h
     where
-      go : (d : Float) → sizeOf d ≡ d → lt d nine ≡ true → finite d ≡ true
-      go nan p e = absurd (false≢true e)
-      go (inf true) p e = absurd (false≢true (cc))
-      go (inf false) p e = absurd (false≢true e)
-      go (fin s m f) p e = refl
+      go : (d : Float) → sizeOf d ≡ d → (y : Float) → finite y ≡ true → lt d y ≡ true → finite d ≡ true
+      go nan p y f e = absurd (false≢true e)
+      go (inf true) p y f e = absurd (false≢true (cc))
+      go (inf false) p nan f e = absurd (false≢true f)
+      go (inf false) p (inf s) f e = absurd (false≢true f)
+      go (inf false) p (fin s k d) f e = absurd (false≢true e)
+      go (fin s m e') p y f e = refl

@@ -34,10 +34,6 @@ twoAndHalf = ofBits binary64 0x4004_0000_0000_0000
 abbrev pub three : Float
 three = ofBits binary64 0x4008_0000_0000_0000
 
--- 3 · 3: squares that sum to less are those of parts below 3
-abbrev pub nine : Float
-nine = ofBits binary64 0x4022_0000_0000_0000
-
 -- 1 / sin 60° and sin 60°, as the source writes them
 abbrev pub rsin60 : Float
 rsin60 = ofBits binary64 0x3ff2_79a7_4590_331c

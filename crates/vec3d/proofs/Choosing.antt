@@ -14,7 +14,8 @@ use Rattle.vec3d.specs.declared.Vec3d.{Vec3d}
 use Rattle.vec3d.specs.declared.Nearest.{Nearest}
 use Rattle.vec3d.specs.Vectors.{badNumber, offSphere}
 use Rattle.vec3d.specs.Frame.{badFrame}
-use Rattle.vec3d.specs.Nearest.{distanceOf, closerOf, nearestBy, nearestTo, pairOf, at, Distances, NearestIf}
+use Rattle.vec3d.specs.Nearest.{distanceOf, closerOf, nearestBy, nearestTo}
+use Rattle.vec3d.specs.AsAsked.{pairOf, distanceAt, Distances, NearestIf}
 use Rattle.vec3d.proofs.Passing.{passed-both}
 use Rattle.vec3d.proofs.Sizes.{distance-under}
 use Rattle.vec3d.proofs.Comparing.{below-all, not-both, not-itself}
@@ -149,7 +150,7 @@ same-nearest d e (suc f) h = rw (same-nearest d e f (λ k l. h k (le-trans l (le
 
 -- The nearest of twenty distances, if they are numbers, is the nearest face of a frame and a vector that pass.
 pub nearest-held : (s : List Float) (p : Vec3d) (far : List Float) (n : Nearest) → Distances s p far
-    → (((k : ℕ) → k < 20 → finite (at far k) ≡ true) → n ≡ nearestBy (at far) 19) → NearestIf s p n
+    → (((k : ℕ) → k < 20 → finite (distanceAt far k) ≡ true) → n ≡ nearestBy (distanceAt far) 19) → NearestIf s p n
 nearest-held s p far n h found frame fine =
     let b = passed-both p fine in
-    found (λ k l. rw (h .each k l) (distance-under s p k frame (b .0) (b .1) l .number)) ∙ same-nearest (at far) (distanceOf s p) 19 (λ k l. h .each k (omega arith))
+    found (λ k l. rw (h .each k l) (distance-under s p k frame (b .0) (b .1) l .number)) ∙ same-nearest (distanceAt far) (distanceOf s p) 19 (λ k l. h .each k (omega arith))

@@ -9,12 +9,13 @@ use lib.ListN.{length, set, length-set}
 use lib.Seq.{getD-set-same, getD-set-other}
 use lib.Ieee.{Float, nan}
 use Rattle.vec3d.specs.declared.Vec3d.{Vec3d}
-use Rattle.vec3d.specs.Nearest.{distanceOf, at, Distances}
+use Rattle.vec3d.specs.Nearest.{distanceOf}
+use Rattle.vec3d.specs.AsAsked.{distanceAt, Distances}
 
 -- room for twenty, and in it the distances of the faces below f
 pub record Held (s : List Float) (p : Vec3d) (f : ℕ) (far : List Float) : Type 0 where
   pub long : length far ≡ 20
-  pub each : (k : ℕ) → k < f → at far k ≡ distanceOf s p k
+  pub each : (k : ℕ) → k < f → distanceAt far k ≡ distanceOf s p k
 
 module _ (s : List Float) (p : Vec3d) (far : List Float) where
   pub none-held : length far ≡ 20 → Held s p 0 far
@@ -25,7 +26,7 @@ module _ (s : List Float) (p : Vec3d) (far : List Float) where
       record {
         long = length-set far f d ∙ w .long;
         each =
-            below-more (λ (k : ℕ). at (set far f d) k ≡ distanceOf s p k) f
+            below-more (λ (k : ℕ). distanceAt (set far f d) k ≡ distanceOf s p k) f
             (λ k l. getD-set-other far f k d nan (λ q. absurd (omega arith)) ∙ w .each k l)
             (getD-set-same far f d nan (omega (arith, w .long)) ∙ e);
       }

@@ -18,8 +18,9 @@ use Rattle.double.specs.Double.{finite, sizeOf, mulAdd, three, sphereLow, spher
 use Rattle.double.specs.Sizes.{Under}
 use Rattle.double.proofs.Tests.{lt-not-le, between-le, le-between, three-value}
 use Rattle.vec3d.specs.declared.Vec3d.{Vec3d}
-use Rattle.vec3d.specs.Vectors.{dotOf, badNumber, offSphere, wide, narrow, loose}
-use Rattle.vec3d.specs.Frame.{vecAt, someBelow, nonFinite, badAxes, unfit, badFrame}
+use Rattle.vec3d.specs.Vectors.{dotOf, badNumber, offSphere, wide}
+use Rattle.vec3d.specs.Frame.{vecAt, someBelow, nonFinite, badAxes, badFrame}
+use Rattle.vec3d.specs.AsAsked.{narrow, loose, unfit}
 use Rattle.vec3d.proofs.Passing.{none-at}
 
 pub both : (a b : Bool) → (a && b) ≡ true → (a ≡ true) × (b ≡ true)

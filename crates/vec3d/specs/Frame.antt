@@ -1,14 +1,14 @@
 -- The frame of document 01: 180 doubles, nine per face, and which frames are taken.
-use mathlib.Core.Bool.{Bool, false, not, _&&_, _||_}
+use mathlib.Core.Bool.{Bool, false, not, _||_}
 use mathlib.Core.List.{List}
 use Prim.Native.Nat.{ℕ, zero, suc, _+_, _*_}
 use lib.Dec.{eqb}
 use lib.ListN.{length, getD}
-use lib.Ieee.{Float, nan, lt}
-use Rattle.double.specs.Double.{finite, nine}
+use lib.Ieee.{Float, nan}
+use Rattle.double.specs.Double.{finite}
 use Rattle.vec3d.specs.declared.Vec3d.{Vec3d}
 use Rattle.vec3d.specs.declared.FaceAxes.{FaceAxes}
-use Rattle.vec3d.specs.Vectors.{dotOf, wide, loose, nearOne, offSphere}
+use Rattle.vec3d.specs.Vectors.{wide, offSphere}
 
 -- the vector whose three numbers begin at a place of a list
 unfoldable pub vecAt : List Float → ℕ → Vec3d
@@ -34,13 +34,3 @@ badAxes s f = wide (faceAt s f .u) || wide (faceAt s f .v) || offSphere (faceAt 
 -- BadFrame: length not 180; a non-finite number; a face that will not do
 unfoldable pub badFrame : List Float → Bool
 badFrame s = not (eqb (length s) 180) || (nonFinite s || someBelow (badAxes s) 20)
-
--- a face that will not do or has a non-finite number, as the code asks it
-unfoldable pub unfit : List Float → ℕ → Bool
-unfit s f = loose (faceAt s f .u) || loose (faceAt s f .v) || offSphere (faceAt s f .centre)
-
--- a face that is not fit beyond doubt, as the code asks it first: three sums of squares
-unfoldable pub doubtful : List Float → ℕ → Bool
-doubtful s f =
-    let a = faceAt s f in
-    not (lt (dotOf (a .u) (a .u)) nine && lt (dotOf (a .v) (a .v)) nine && nearOne (dotOf (a .centre) (a .centre)))

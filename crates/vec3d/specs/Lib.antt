@@ -2,4 +2,5 @@
 pub mod Vectors
 pub mod Frame
 pub mod Nearest
+pub mod AsAsked
 pub mod Sizes

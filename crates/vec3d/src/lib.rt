@@ -5,9 +5,10 @@ ghost use Prim.Native.Nat.{ℕ, _+_, _*_, _≤_, _<_};
 ghost use lib.ListN.{length};
 ghost use Rattle.reply.specs.declared.Verdict.the-variants.{Fine};
 ghost use Rattle.double.specs.Double.{finite};
-ghost use Rattle.vec3d.specs.Vectors.{dotOf, minusOf, badNumber, offSphere, narrow, loose, nearOne, vectorVerdict};
-ghost use Rattle.vec3d.specs.Frame.{vecAt, faceAt, someBelow, unfit, doubtful, badFrame};
-ghost use Rattle.vec3d.specs.Nearest.{distanceOf, closerOf, nearestBy, nearestTo, pairOf, at, Distances, NearestIf, saidNearest, nearestReply};
+ghost use Rattle.vec3d.specs.Vectors.{dotOf, minusOf, badNumber, offSphere, vectorVerdict};
+ghost use Rattle.vec3d.specs.Frame.{vecAt, faceAt, someBelow, badFrame};
+ghost use Rattle.vec3d.specs.Nearest.{distanceOf, closerOf, nearestBy, nearestTo, saidNearest, nearestReply};
+ghost use Rattle.vec3d.specs.AsAsked.{narrow, loose, unfit, nearOne, doubtful, fails, pairOf, distanceAt, Distances, NearestIf};
 use reply::Refusal;
 use reply::Verdict;
 
@@ -57,6 +58,9 @@ impl Vec3d {
 
     // How large a part of u or v may be.
     pub const WIDEST: f64 = 3.0;
+
+    // Its square: squares that sum to less are of no part so large.
+    const WIDEST_SQUARE: f64 = 9.0;
 
     pub fn new(x: f64, y: f64, z: f64) -> Vec3d
         ensures { λ r. ⌜ r ≡ record { x = x; y = y; z = z } ⌝ }
@@ -165,8 +169,7 @@ fn is_unit(square: f64) -> bool
     (-Vec3d::CERTAIN <= off) & (off <= Vec3d::CERTAIN)
 }
 
-// Whether a face is not fit beyond doubt: squares that sum to less than 9 are of no part of 3 or more. Every face of an icosahedron passes, and the three
-// sums take less time than the tests of the parts.
+// Whether a face is not fit beyond doubt. Every face of an icosahedron passes, and the three sums of squares take less time than the tests of the parts.
 fn doubtful(frame: &[f64], face: u32) -> bool
     requires { ⌜ 9 * face + 9 ≤ length (now frame) ⌝ }
     ensures { λ r. ⌜ r ≡ doubtful (now (frame .entry)) face ⌝ }
@@ -175,31 +178,32 @@ fn doubtful(frame: &[f64], face: u32) -> bool
     let centre = axes.centre;
     let u = axes.u;
     let v = axes.v;
-    !((u.dot(u) < 9.0) & (v.dot(v) < 9.0) & is_unit(centre.dot(centre)))
+    !((u.dot(u) < Vec3d::WIDEST_SQUARE)
+        & (v.dot(v) < Vec3d::WIDEST_SQUARE)
+        & is_unit(centre.dot(centre)))
 }
 
-// One pass over the faces finds what is not finite too: a loose axis or a centre off the sphere.
-fn some_unfit(frame: &[f64]) -> bool
-    requires { ⌜ length (now frame) ≡ 180 ⌝ }
-    ensures { λ r. ⌜ r ≡ someBelow (unfit (now (frame .entry))) 20 ⌝ }
+// Closely, part by part, a face fails where it is unfit; else where it is doubtful.
+fn fails(frame: &[f64], face: u32, closely: bool) -> bool
+    requires { ⌜ 9 * face + 9 ≤ length (now frame) ⌝ }
+    ensures { λ r. ⌜ r ≡ fails closely (now (frame .entry)) face ⌝ }
 {
-    let mut found = false;
-    let mut face = 0u32;
-    while face < 20 {
-        found = found | unfit(frame, face);
-        face += 1;
+    if closely {
+        unfit(frame, face)
+    } else {
+        doubtful(frame, face)
     }
-    found
 }
 
-fn some_doubtful(frame: &[f64]) -> bool
+// One pass over the faces finds what is not finite too.
+fn some_fails(frame: &[f64], closely: bool) -> bool
     requires { ⌜ length (now frame) ≡ 180 ⌝ }
-    ensures { λ r. ⌜ r ≡ someBelow (doubtful (now (frame .entry))) 20 ⌝ }
+    ensures { λ r. ⌜ r ≡ someBelow (fails closely (now (frame .entry))) 20 ⌝ }
 {
     let mut found = false;
     let mut face = 0u32;
     while face < 20 {
-        found = found | doubtful(frame, face);
+        found = found | fails(frame, face, closely);
         face += 1;
     }
     found
@@ -213,8 +217,8 @@ pub fn bad_frame(frame: &[f64]) -> bool
     if frame.len() != 180 {
         return true;
     }
-    if some_doubtful(frame) {
-        return some_unfit(frame);
+    if some_fails(frame, false) {
+        return some_fails(frame, true);
     }
     false
 }
@@ -258,7 +262,7 @@ fn distances(frame: &[f64], p: Vec3d) -> [f64; 20]
 // The nearer one of a face and the next.
 fn pair_at(far: [f64; 20], face: u32) -> Nearest
     requires { ⌜ face ≤ 18 ⌝ }
-    ensures { λ r. ⌜ r ≡ pairOf (at far) face ⌝ }
+    ensures { λ r. ⌜ r ≡ pairOf (distanceAt far) face ⌝ }
 {
     let at = face as usize;
     let first = Nearest {
@@ -271,7 +275,7 @@ fn pair_at(far: [f64; 20], face: u32) -> Nearest
 // The nearest of twenty faces by their squared distances, if these are numbers. Two faces are compared with each other before the nearer one is
 // compared with the best so far, which halves the comparisons that wait for one another.
 fn least(far: [f64; 20]) -> Nearest
-    ensures { λ r. ⌜ (((k : ℕ) → k < 20 → finite (at far k) ≡ true) → r ≡ nearestBy (at far) 19) ⌝ }
+    ensures { λ r. ⌜ (((k : ℕ) → k < 20 → finite (distanceAt far k) ≡ true) → r ≡ nearestBy (distanceAt far) 19) ⌝ }
 {
     let mut best = pair_at(far, 0);
     let mut last = 1u32;
@@ -322,7 +326,7 @@ pub fn nearest_face(frame: &[f64], p: Vec3d) -> NearestFace
     let looked = look(frame, p);
     let nearest = looked.nearest;
     if looked.doubt {
-        if some_unfit(frame) {
+        if some_fails(frame, true) {
             return NearestFace::Refused(Refusal::BadFrame);
         }
     }

@@ -13,10 +13,10 @@ unfolding badFrame
 returns c = rw (ne-eqb _ _ (c .if1 .taken))
 
 returns-2 : tie.Need-returns-2
-returns-2 c = c .some-unfit .ensures ∙ sym (by-faces _ (c .before .before .before .if1 .left))
+returns-2 c = c .some-fails2 .ensures ∙ sym (by-faces _ (c .before .before .before .if1 .left))
 
 returns-3 : tie.Need-returns-3
-returns-3 c = sym (no-doubt _ (c .before .before .if1 .left) (sym (c .before .some-doubtful .ensures) ∙ c .if2 .left))
+returns-3 c = sym (no-doubt _ (c .before .before .if1 .left) (sym (c .before .some-fails .ensures) ∙ c .if2 .left))
 
 pub bad-frame-spec : {M : Type 1} → statement M
 bad-frame-spec = tie.close (tie.spec returns (λ c κs. search needs) (λ c κs. search needs) returns-2 returns-3)

@@ -1,6 +1,6 @@
 -- `doubtful` meets its contract. Assumes nothing.
 use borrow.Author.Needs.{needs}
-use Rattle.vec3d.specs.Frame.{doubtful}
+use Rattle.vec3d.specs.AsAsked.{doubtful}
 use Rattle.vec3d.proofs.doubtful.Statement.{statement}
 use Rattle.vec3d.proofs.doubtful.Tie as tie
 

@@ -1,7 +1,7 @@
 -- `is_unit` meets its contract. Assumes nothing.
 use mathlib.Core.Path.{refl}
 use lib.Ieee.{ofBits, neg}
-use Rattle.vec3d.specs.Vectors.{nearOne}
+use Rattle.vec3d.specs.AsAsked.{nearOne}
 use Rattle.vec3d.proofs.is_unit.Statement.{statement}
 use Rattle.vec3d.proofs.is_unit.Tie as tie
 

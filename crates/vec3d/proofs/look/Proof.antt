@@ -4,7 +4,8 @@ use Prim.Native.Nat.{_≤_, _-_}
 use native.Mathlib.Numerals.{add-one}
 use native.Mathlib.Omega.{arith}
 use borrow.Author.Needs.{needs}
-use Rattle.vec3d.specs.Frame.{someBelow, doubtful}
+use Rattle.vec3d.specs.Frame.{someBelow}
+use Rattle.vec3d.specs.AsAsked.{doubtful}
 use Rattle.vec3d.proofs.Choosing.{nearest-held}
 use Rattle.vec3d.proofs.Held.{Held, none-held, one-more, all-held}
 use Rattle.vec3d.proofs.look.Statement.{statement}

@@ -21,7 +21,7 @@ returns c = rw (ne-eqb _ _ (c .if1 .taken))
 returns-2 : tie.Need-returns-2
 returns-2 c =
     let long = c .before .before .before .before .before .if1 .left in
-    rw (by-faces _ long ∙ sym (c .before .some-unfit .ensures) ∙ c .if3 .taken)
+    rw (by-faces _ long ∙ sym (c .before .some-fails .ensures) ∙ c .if3 .taken)
 
 -- past the tests of the frame: no face was doubtful, or none of them unfit
 framed : (c : tie.Joined2) → badFrame (c .before .before .before .before .before .args .frame .now) ≡ false

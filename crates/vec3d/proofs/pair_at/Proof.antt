@@ -1,7 +1,7 @@
 -- `pair_at` meets its contract. Assumes nothing.
 use borrow.Author.Needs.{needs}
 use native.Mathlib.Numerals.{add-one}
-use Rattle.vec3d.specs.Nearest.{pairOf}
+use Rattle.vec3d.specs.AsAsked.{pairOf}
 use Rattle.vec3d.proofs.pair_at.Statement.{statement}
 use Rattle.vec3d.proofs.pair_at.Tie as tie
 

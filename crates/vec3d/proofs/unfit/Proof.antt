@@ -1,6 +1,6 @@
 -- `unfit` meets its contract. Assumes nothing.
-use Rattle.vec3d.specs.Frame.{unfit}
 use borrow.Author.Needs.{needs}
+use Rattle.vec3d.specs.AsAsked.{unfit}
 use Rattle.vec3d.proofs.unfit.Statement.{statement}
 use Rattle.vec3d.proofs.unfit.Tie as tie
 

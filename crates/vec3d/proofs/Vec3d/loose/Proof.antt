@@ -1,6 +1,6 @@
 -- `Vec3d::loose` meets its contract. Assumes nothing.
-use Rattle.vec3d.specs.Vectors.{loose}
 use borrow.Author.Needs.{needs}
+use Rattle.vec3d.specs.AsAsked.{loose}
 use Rattle.vec3d.proofs.Vec3d.loose.Statement.{statement}
 use Rattle.vec3d.proofs.Vec3d.loose.Tie as tie
 

@@ -1,0 +1,2 @@
+-- Laws of the C face: the default frame passes.
+pub mod Passing
