@@ -12,9 +12,8 @@ use Rattle.reply.specs.declared.Refusal.{Refusal}
 use Rattle.reply.specs.declared.Refusal.the-variants.{BadFrame, BadRows, BadFace, BadLevel, BadRange, BadNumber, OffSphere, Behind, TooFar, NotReduced, OutOfFace, NotAdjacent, NoCrossing, BadLine}
 use Rattle.reply.specs.declared.Verdict.{Verdict}
 use Rattle.reply.specs.declared.Verdict.the-variants.{Fine, Refused}
-use Rattle.reply.specs.Replies.{numberOf, Reply}
+use Rattle.reply.specs.Replies.{numberOf, verdictNumber, Reply}
 use Rattle.reply.proofs.Numbers.{number-pos}
-use Rattle.boundary.specs.Corners.{verdictNumber}
 use Rattle.walk_lines.specs.Lines.{field, space, newline}
 use Rattle.walk_lines.proofs.Decimals.{short10, short20}
 use Rattle.walk_lines.proofs.Lengths.{field-length}

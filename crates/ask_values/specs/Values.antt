@@ -1,7 +1,6 @@
 -- What an answer of the desk tool says.
 use lib.ListN.{take}
-use Rattle.reply.specs.Replies.{Reply}
-use Rattle.boundary.specs.Corners.{verdictNumber}
+use Rattle.reply.specs.Replies.{verdictNumber, Reply}
 use Rattle.ask_values.specs.declared.Answer.{Answer}
 
 -- its refusal's number, and the first `count` of its values

@@ -5,27 +5,19 @@ use Prim.Native.Nat.{ℕ, zero, suc}
 use native.Mathlib.Omega.{arith}
 use lib.Dec.{T}
 use lib.Ieee.{binary64, fits}
-use Rattle.reply.specs.declared.Verdict.{Verdict}
-use Rattle.reply.specs.declared.Verdict.the-variants.{Fine, Refused}
-use Rattle.reply.specs.Replies.{Reply}
-use Rattle.reply.proofs.Numbers.{same-number, number-pos}
+use Rattle.reply.specs.Replies.{verdictNumber, Reply}
+use Rattle.reply.proofs.Numbers.{same-verdict}
 use Rattle.coordijk.specs.declared.CoordIJK.{CoordIJK}
 use Rattle.coordijk.proofs.Unique.{same-coord}
 use Rattle.vec2d.proofs.Unique.{same-bits}
 use Rattle.boundary.specs.declared.Corners.{Corners}
 use Rattle.boundary.specs.declared.BoundaryPoint.{BoundaryPoint}
 use Rattle.boundary.specs.declared.Boundary.{Boundary}
-use Rattle.boundary.specs.Corners.{verdictNumber, coordsValues, saidCorners}
+use Rattle.boundary.specs.Corners.{coordsValues, saidCorners}
 use Rattle.boundary.specs.Boundaries.{pointsValues, saidBoundary}
 
 values : {a b : Reply} → a ≡ b → a .values ≡ b .values
 values e = ap (λ (x : Reply). x .values) e
-
-same-verdict : (a b : Verdict) → verdictNumber a ≡ verdictNumber b → a ≡ b
-same-verdict Fine Fine e = refl
-same-verdict Fine (Refused r) e = absurd (omega (arith, number-pos r))
-same-verdict (Refused r) Fine e = absurd (omega (arith, number-pos r))
-same-verdict (Refused r) (Refused s) e = ap Refused (same-number r s e)
 
 same-coords : (xs ys : List CoordIJK) → coordsValues xs ≡ coordsValues ys → xs ≡ ys
 same-coords [] [] e = refl
@@ -40,7 +32,7 @@ same-coords (c ∷ cs) (d ∷ ds) e =
 pub one-corners : (a b : Corners) → saidCorners a ≡ saidCorners b → a ≡ b
 one-corners a b e =
     let v = values e in
-    let refusal = same-verdict (a .refusal) (b .refusal) (ap (λ (x : Reply). x .number) e) in
+    let refusal : a .refusal ≡ b .refusal = same-verdict (ap (λ (x : Reply). x .number) e) in
     let level : a .level .0 ≡ b .level .0 = cc in
     let corners = same-coords (a .corners) (b .corners) (cc) in
     λ n. record { refusal = refusal n; level = record { 0 = level n }; corners = corners n }
@@ -70,7 +62,7 @@ same-points (p ∷ ps) (q ∷ qs) f g e =
 pub one-boundary : (a b : Boundary) → AllHeld (a .points) → AllHeld (b .points) → saidBoundary a ≡ saidBoundary b → a ≡ b
 one-boundary a b f g e =
     let v = values e in
-    let refusal = same-verdict (a .refusal) (b .refusal) (ap (λ (x : Reply). x .number) e) in
+    let refusal : a .refusal ≡ b .refusal = same-verdict (ap (λ (x : Reply). x .number) e) in
     let count : a .count ≡ b .count = cc in
     let points = same-points (a .points) (b .points) f g (cc) in
     λ n. record { refusal = refusal n; count = count n; points = points n }

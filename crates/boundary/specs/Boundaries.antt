@@ -10,7 +10,7 @@ use Rattle.reply.specs.Choice.{pick}
 use Rattle.reply.specs.declared.Verdict.{Verdict}
 use Rattle.reply.specs.declared.Verdict.the-variants.{Fine}
 use Rattle.reply.specs.declared.Refusal.the-variants.{OutOfFace}
-use Rattle.reply.specs.Replies.{Reason, when, first, Reply, reply}
+use Rattle.reply.specs.Replies.{verdictNumber, Reason, when, first, Reply, reply}
 use Rattle.double.specs.Double.{nought}
 use Rattle.level.specs.Levels.{badGrid, raisedOf, limitOf}
 use Rattle.coordijk.specs.Coordinates.{sumOf}
@@ -21,7 +21,7 @@ use Rattle.boundary.specs.declared.BoundaryPoint.{BoundaryPoint}
 use Rattle.boundary.specs.declared.Boundary.{Boundary}
 use Rattle.boundary.specs.declared.Before.{Before}
 use Rattle.boundary.specs.declared.Before.the-variants.{Nothing, Point, Refused}
-use Rattle.boundary.specs.Corners.{classIII, throughApertures, verdictNumber, cellReasons}
+use Rattle.boundary.specs.Corners.{classIII, throughApertures, cellReasons}
 use Rattle.boundary.specs.Landing.{cellOf, shapeOf, substrateOf, landAt}
 use Rattle.boundary.specs.CrossingPoints.{cornerPoint, beforeAt}
 

@@ -6,9 +6,8 @@ use lib.Dec.{eqb}
 use lib.ListN.{getD}
 use Rattle.reply.specs.Choice.{pick}
 use Rattle.reply.specs.declared.Verdict.{Verdict}
-use Rattle.reply.specs.declared.Verdict.the-variants.{Fine, Refused}
 use Rattle.reply.specs.declared.Refusal.the-variants.{BadFace, BadLevel, BadRange, NotReduced}
-use Rattle.reply.specs.Replies.{numberOf, Reason, when, first, Reply, reply}
+use Rattle.reply.specs.Replies.{verdictNumber, Reason, when, first, Reply, reply}
 use Rattle.level.specs.Levels.{badCell, raisedOf}
 use Rattle.coordijk.specs.declared.CoordIJK.{CoordIJK}
 use Rattle.coordijk.specs.declared.GridMap.the-variants.{Aperture3Ccw, Aperture3Cw, Aperture7Cw}
@@ -62,10 +61,6 @@ cornersReasons p l = when (badFace (p .face)) BadFace ∷ when (badCell l) BadLe
 
 abbrev pub cornersVerdict : Place → ℕ → Verdict
 cornersVerdict p l = first (cornersReasons p l)
-
-abbrev pub verdictNumber : Verdict → ℕ
-verdictNumber Fine = 0
-verdictNumber (Refused r) = numberOf r
 
 abbrev pub coordsValues : List CoordIJK → List ℕ
 coordsValues [] = []

@@ -1,8 +1,9 @@
 // The corners of a cell and its boundary on the plane: `vertices`, `hexagon_boundary` and `pentagon_boundary` of the source.
 ghost use mathlib.Core.Path.{_≡_};
-ghost use mathlib.Core.Bool.{false};
+ghost use mathlib.Core.Bool.{false, not, _||_};
 ghost use mathlib.Core.List.{[]};
 ghost use Prim.Native.Nat.{_+_, _≤_, _<_};
+ghost use lib.Dec.{eqb};
 ghost use lib.IntN.{pos};
 ghost use lib.Ieee.{binary64, ofInt};
 ghost use Rattle.level.specs.Levels.{badGrid, raisedOf, gridOf, Sound};
@@ -494,13 +495,20 @@ impl Shape {
         if k < 5 { self.settled(k) } else { first }
     }
 
+    // Whether nothing can stand before the corner at turn k: it is the first, or the cell is of Class II.
+    fn bare(self, k: u32) -> bool
+        ensures { λ r. ⌜ r ≡ (eqb k 0 || not (self .cell .odd)) ⌝ }
+    {
+        let odd = self.cell.odd;
+        (k == 0) | !odd
+    }
+
     // What stands before a hexagon's corner at turn k.
     fn hexagon_before(self, k: u32, last: Landed, now: Landed) -> Before
         requires { ⌜ Fit self × (k ≤ self .sides) × (self .sides ≡ 6) ⌝ }
         ensures { λ r. ⌜ r ≡ beforeFrom self k last now ⌝ }
     {
-        let odd = self.cell.odd;
-        if (k == 0) | !odd {
+        if self.bare(k) {
             return Before::Nothing;
         }
         self.cell
@@ -512,8 +520,7 @@ impl Shape {
         requires { ⌜ Fit self × Okay (now .place) × (self .sides ≡ 5) × (0 < k → a ≡ centreOf (coordOf (last .place))) ⌝ }
         ensures { λ r. ⌜ r ≡ beforeFrom self k last now ⌝ }
     {
-        let class_three = self.cell.odd;
-        if (k == 0) | !class_three {
+        if self.bare(k) {
             return Before::Nothing;
         }
         self.cell.pentagon_crossing(last.place, a, now.place)

@@ -1,6 +1,7 @@
 // Coordinates on a face's grid, `CoordIJK` of the source: reducing, and the five maps of document 01's table.
 ghost use mathlib.Core.Path.{_≡_};
 ghost use Prim.Native.Nat.{_+_, _*_, _≤_, max};
+ghost use Rattle.reply.specs.Replies.{verdictNumber};
 ghost use Rattle.coordijk.specs.Coordinates.{coord, least, reduced, Taken, verdictOf};
 ghost use Rattle.coordijk.specs.Maps.{mapOf, saidMapped, mapReply};
 use reply::Refusal;
@@ -77,7 +78,7 @@ impl CoordIJK {
 
     // Whether the triple is taken: reduced, and no coordinate above 2^26.
     pub fn verdict(self) -> Verdict
-        ensures { λ r. ⌜ r ≡ verdictOf self ⌝ }
+        ensures { λ r. ⌜ verdictNumber r ≡ verdictNumber (verdictOf self) ⌝ }
     {
         if 0 < least_of(self.i, self.j, self.k) {
             return Verdict::Refused(Refusal::NotReduced);

@@ -1,6 +1,7 @@
 // Places on the twenty faces, `FaceIJK` of the source: reducing, turning, stepping over an edge, crossing, settling.
 ghost use mathlib.Core.Path.{_≡_};
 ghost use Prim.Native.Nat.{_<_, _≤_};
+ghost use Rattle.reply.specs.Replies.{verdictNumber};
 ghost use Rattle.level.specs.Levels.{Sound, gridOf};
 ghost use Rattle.coordijk.specs.Coordinates.{reduced};
 ghost use Rattle.faceijk.specs.Places.{place, coordOf, sumAt, QAt, Okay, Ready, placeVerdict, edgeVerdict, overEdgeVerdict, onGridOf};
@@ -251,7 +252,7 @@ impl Place {
 
     // Whether the place is taken: a face 0..19, reduced, and no coordinate above 2^26.
     pub fn verdict(self) -> Verdict
-        ensures { λ r. ⌜ r ≡ placeVerdict self ⌝ }
+        ensures { λ r. ⌜ verdictNumber r ≡ verdictNumber (placeVerdict self) ⌝ }
     {
         if 19 < self.face {
             return Verdict::Refused(Refusal::BadFace);

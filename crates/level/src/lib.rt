@@ -1,6 +1,7 @@
 // Cell levels and grid levels, `Resolution` and `ExtendedResolution` of the source, and the sizes of a face's grid.
 ghost use mathlib.Core.Path.{_≡_};
 ghost use Prim.Native.Nat.{_≤_};
+ghost use Rattle.reply.specs.Replies.{verdictNumber};
 ghost use Rattle.level.specs.Levels.{cellVerdict, gridVerdict, unitOf, saidRaised, raiseReply, saidGridded, gridReply};
 use reply::Refusal;
 use reply::Verdict;
@@ -35,7 +36,7 @@ impl CellLevel {
     pub const FINEST: u32 = 15;
 
     pub fn verdict(self) -> Verdict
-        ensures { λ r. ⌜ r ≡ cellVerdict (self .0) ⌝ }
+        ensures { λ r. ⌜ verdictNumber r ≡ verdictNumber (cellVerdict (self .0)) ⌝ }
     {
         if CellLevel::FINEST < self.0 {
             return Verdict::Refused(Refusal::BadLevel);
@@ -58,7 +59,7 @@ impl GridLevel {
     pub const FINEST: u32 = 16;
 
     pub fn verdict(self) -> Verdict
-        ensures { λ r. ⌜ r ≡ gridVerdict (self .0) ⌝ }
+        ensures { λ r. ⌜ verdictNumber r ≡ verdictNumber (gridVerdict (self .0)) ⌝ }
     {
         if self.0 % 2 == 1 {
             return Verdict::Refused(Refusal::BadLevel);

@@ -1,4 +1,4 @@
--- A place that is given out is accepted by every entry that takes a place. Assumes nothing.
+-- A place that is given out is refused by no entry with 3 or 10. Assumes nothing.
 use mathlib.Core.Path.{_≡_, refl, sym, ap, subst, _∙_}
 use mathlib.Core.Bool.{Bool, true, false}
 use mathlib.Core.List.{List, [], _∷_}
@@ -10,6 +10,7 @@ use Rattle.reply.specs.declared.Verdict.the-variants.{Fine}
 use Rattle.reply.specs.declared.Refusal.the-variants.{BadNumber, OffSphere, Behind, TooFar}
 use Rattle.reply.specs.Replies.{first}
 use Rattle.reply.proofs.Entries.{answered, passed}
+use Rattle.coordijk.specs.Coordinates.{notReduced}
 use Rattle.coordijk.proofs.Taking.{passes}
 use Rattle.vec2d.specs.Rounding.{tooFar, nearestOf}
 use Rattle.vec2d.proofs.Taken.{rounded-taken}
@@ -17,7 +18,7 @@ use Rattle.vec3d.specs.declared.Vec3d.{Vec3d}
 use Rattle.vec3d.specs.Vectors.{badNumber, offSphere, vectorVerdict}
 use Rattle.face_projection.specs.Projection.{behind}
 use Rattle.faceijk.specs.declared.Place.{Place}
-use Rattle.faceijk.specs.Places.{coordOf, placeValues, placeVerdict, Okay}
+use Rattle.faceijk.specs.Places.{badFace, coordOf, placeValues, Okay}
 use Rattle.locate.specs.declared.Located.{Located}
 use Rattle.locate.specs.declared.Located.the-variants.{Done, Refused}
 use Rattle.locate.specs.Locating.{Passed, Entered, nearAxes, nearPoint, placeOf, frontReasons, rowVerdict, rowReply, saidLocated}
@@ -51,8 +52,9 @@ module _ (s : List Float) (l : ℕ) (p : Vec3d) (ready : Passed s l) where
       subst Okay (sym (same-place q (placeOf s l p) (a .1))) (placed-okay (a .0))
   given-okay (Refused r) e = tt
 
-  -- In the words of the entries that take a place: their tests find nothing.
-  pub given-fine : rowVerdict s l p ≡ Fine → placeVerdict (placeOf s l p) ≡ Fine
-  given-fine e =
+  -- In the words of the entries that take a place: neither BadFace nor NotReduced applies. Other reasons may: at an odd level a place near an edge may
+  -- lie out of its face, and its boundary gets 11.
+  pub never-three-or-ten : rowVerdict s l p ≡ Fine → (badFace (placeOf s l p .face) ≡ false) × (notReduced (coordOf (placeOf s l p)) ≡ false)
+  never-three-or-ten e =
       let o = placed-okay e in
-      rw (le-ltb 19 (placeOf s l p .face) (le-of-suc-le-suc (o .on)), passes (coordOf (placeOf s l p)) (o .taken))
+      (le-ltb 19 (placeOf s l p .face) (le-of-suc-le-suc (o .on)), passes (coordOf (placeOf s l p)) (o .taken))

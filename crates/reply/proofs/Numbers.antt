@@ -5,7 +5,9 @@ use Prim.Native.Nat.{ℕ, zero, suc, _<_}
 use native.Mathlib.Omega.{arith}
 use Rattle.reply.specs.declared.Refusal.{Refusal}
 use Rattle.reply.specs.declared.Refusal.the-variants.{BadFrame, BadRows, BadFace, BadLevel, BadRange, BadNumber, OffSphere, Behind, TooFar, NotReduced, OutOfFace, NotAdjacent, NoCrossing, BadLine}
-use Rattle.reply.specs.Replies.{numberOf}
+use Rattle.reply.specs.declared.Verdict.{Verdict}
+use Rattle.reply.specs.declared.Verdict.the-variants.{Fine, Refused}
+use Rattle.reply.specs.Replies.{numberOf, verdictNumber}
 
 nth : List Refusal → ℕ → Refusal
 nth [] n = BadLine
@@ -53,3 +55,10 @@ number-pos OutOfFace = omega arith
 number-pos NotAdjacent = omega arith
 number-pos NoCrossing = omega arith
 number-pos BadLine = omega arith
+
+-- Two verdicts with one number are one.
+pub same-verdict : {a b : Verdict} → verdictNumber a ≡ verdictNumber b → a ≡ b
+same-verdict {a = Fine} {b = Fine} e = refl
+same-verdict {a = Fine} {b = Refused r} e = absurd (omega (arith, number-pos r))
+same-verdict {a = Refused r} {b = Fine} e = absurd (omega (arith, number-pos r))
+same-verdict {a = Refused r} {b = Refused s} e = ap Refused (same-number r s e)

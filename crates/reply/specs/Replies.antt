@@ -26,6 +26,11 @@ numberOf NotAdjacent = 12
 numberOf NoCrossing = 13
 numberOf BadLine = 14
 
+-- what the tests of an input found, in the paper's numbers: 0 for nothing
+abbrev pub verdictNumber : Verdict → ℕ
+verdictNumber Fine = 0
+verdictNumber (Refused r) = numberOf r
+
 -- a reason to refuse, and whether it applies
 pub record Reason : Type 0 where
   pub applies : Bool

@@ -4,6 +4,7 @@ ghost use mathlib.Core.Bool.{true, false};
 ghost use Prim.Native.Nat.{ℕ, _+_, _*_, _≤_, _<_};
 ghost use lib.ListN.{length};
 ghost use Rattle.reply.specs.declared.Verdict.the-variants.{Fine};
+ghost use Rattle.reply.specs.Replies.{verdictNumber};
 ghost use Rattle.double.specs.Double.{finite};
 ghost use Rattle.vec3d.specs.Vectors.{dotOf, minusOf, badNumber, offSphere, vectorVerdict};
 ghost use Rattle.vec3d.specs.Frame.{vecAt, faceAt, someBelow, badFrame};
@@ -113,7 +114,7 @@ impl Vec3d {
 
     // Whether this is a unit vector: a BadNumber comes before an OffSphere. A vector on the sphere has no bad number, so that one test is enough for it.
     pub fn verdict(self) -> Verdict
-        ensures { λ r. ⌜ r ≡ vectorVerdict self ⌝ }
+        ensures { λ r. ⌜ verdictNumber r ≡ verdictNumber (vectorVerdict self) ⌝ }
     {
         if self.off_sphere() {
             if self.bad_number() {

@@ -7,10 +7,9 @@ use native.Mathlib.Omega.{arith}
 use lib.ListN.{length, take, set}
 use lib.Seq.{take-all}
 use lib.Ieee.{nan}
-use Rattle.reply.specs.Replies.{Reply}
+use Rattle.reply.specs.Replies.{verdictNumber, Reply}
 use Rattle.boundary.specs.declared.BoundaryPoint.{BoundaryPoint}
 use Rattle.boundary.specs.declared.Boundary.{Boundary}
-use Rattle.boundary.specs.Corners.{verdictNumber}
 use Rattle.boundary.specs.Boundaries.{pointsValues, saidBoundary}
 use Rattle.ask_values.proofs.Taken.{first-is, next-point, length-values}
 use Rattle.ask_values.proofs.of_boundary.Statement.{statement}

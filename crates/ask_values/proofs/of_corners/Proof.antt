@@ -6,11 +6,11 @@ use Prim.Native.Nat.{ℕ, _+_, _*_, _-_, _≤_}
 use native.Mathlib.Omega.{arith}
 use lib.ListN.{length, take, set}
 use lib.Seq.{take-all}
-use Rattle.reply.specs.Replies.{Reply}
+use Rattle.reply.specs.Replies.{verdictNumber, Reply}
 use Rattle.coordijk.specs.declared.CoordIJK.{CoordIJK}
 use Rattle.coordijk.specs.Coordinates.{coord}
 use Rattle.boundary.specs.declared.Corners.{Corners}
-use Rattle.boundary.specs.Corners.{verdictNumber, coordsValues, saidCorners}
+use Rattle.boundary.specs.Corners.{coordsValues, saidCorners}
 use Rattle.ask_values.proofs.Taken.{first-is, next-corner, length-values}
 use Rattle.ask_values.proofs.of_corners.Statement.{statement}
 use Rattle.ask_values.proofs.of_corners.Tie as tie

@@ -4,6 +4,7 @@ use mathlib.Core.Path.{_≡_, sym, _∙_}
 use native.Mathlib.Omega.{arith}
 use Rattle.reply.specs.declared.Verdict.the-variants.{Fine}
 use Rattle.reply.specs.Replies.{first}
+use Rattle.reply.proofs.Numbers.{same-verdict}
 use Rattle.vec3d.proofs.Passing.{passed-long}
 use Rattle.face_projection.specs.Projection.{beforeReasons}
 use Rattle.face_projection.proofs.Entering.{before, before-refuses, vector-refuses, project-answers}
@@ -30,14 +31,14 @@ returns : tie.Need-returns
 returns c =
     let told = c .before .before .before .before .before in
     let a = told .before .before .before .before .args in
-    let fine = sym (c .before .before .before .before .verdict .ensures) ∙ c .before .before .enum-told2 .given .1 in
+    let fine = sym (same-verdict (c .before .before .before .before .verdict .ensures)) ∙ c .before .before .enum-told2 .given .1 in
     rw (c .project .ensures, c .before .face-at .ensures) (project-answers (a .frame .now) (a .face) (a .level .0) (a .p) (entered told) fine)
 
 returns-2 : tie.Need-returns-2
 returns-2 c =
     let told = c .before .before .before .before in
     let a = told .before .before .before .before .args in
-    vector-refuses (a .frame .now) (a .face) (a .level .0) (a .p) (entered told) _ (sym (c .before .before .before .verdict .ensures) ∙ c .before .verdict2 .given .1)
+    vector-refuses (a .frame .now) (a .face) (a .level .0) (a .p) (entered told) _ (sym (same-verdict (c .before .before .before .verdict .ensures)) ∙ c .before .verdict2 .given .1)
 
 returns-3 : tie.Need-returns-3
 returns-3 c =

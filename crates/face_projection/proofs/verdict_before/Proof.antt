@@ -2,6 +2,7 @@
 use borrow.Author.Needs.{needs}
 use borrow.Author.Tests.{lt-ltb, le-ltb}
 use mathlib.Core.Path.{sym, _∙_}
+use Rattle.reply.proofs.Numbers.{same-verdict}
 use Rattle.face_projection.proofs.verdict_before.Statement.{statement}
 use Rattle.face_projection.proofs.verdict_before.Tie as tie
 
@@ -13,11 +14,8 @@ returns-2 c = rw (sym (c .before .before .bad-frame .ensures) ∙ c .before .if1
 
 returns-3 : tie.Need-returns-3
 returns-3 c =
-    rw (
-      sym (c .before .before .before .bad-frame .ensures) ∙ c .before .before .if1 .left,
-      le-ltb _ _ (c .before .if2 .left),
-      c .verdict .ensures,
-    )
+    rw (sym (c .before .before .before .bad-frame .ensures) ∙ c .before .before .if1 .left, le-ltb _ _ (c .before .if2 .left))
+    (same-verdict (c .verdict .ensures))
 
 pub verdict-before-spec : {M : Type 1} → statement M
 verdict-before-spec =

@@ -3,9 +3,9 @@ use borrow.Author.Needs.{needs}
 use mathlib.Core.List.{_∷_}
 use mathlib.Core.Path.{sym, ap, _∙_}
 use Rattle.reply.specs.declared.Verdict.{Verdict}
-use Rattle.reply.specs.Replies.{Reply}
+use Rattle.reply.specs.Replies.{verdictNumber, Reply}
 use Rattle.faceijk.specs.declared.Place.{Place}
-use Rattle.boundary.specs.Corners.{verdictNumber, coordsValues, cornersReply}
+use Rattle.boundary.specs.Corners.{coordsValues, cornersReply}
 use Rattle.lent.proofs.Lent.{short, answers, refuses-number}
 use Rattle.lent_borders.proofs.corners.Statement.{statement}
 use Rattle.lent_borders.proofs.corners.Tie as tie

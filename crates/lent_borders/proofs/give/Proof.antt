@@ -5,7 +5,7 @@ use mathlib.Core.Path.{sym, ap}
 use lib.Dec.{ltb}
 use lib.ListN.{length}
 use Rattle.reply.proofs.Entries.{neither}
-use Rattle.boundary.specs.Corners.{verdictNumber}
+use Rattle.reply.specs.Replies.{verdictNumber}
 use Rattle.boundary.specs.Boundaries.{saidBoundary}
 use Rattle.lent.specs.Lent.{bitsOf}
 use Rattle.lent_borders.proofs.Ending.{boundary-short, boundary-answers, boundary-refuses}

@@ -1,6 +1,7 @@
 -- `batch_verdict` meets its contract: each return by the tests that lead to it. Assumes nothing.
 use borrow.Author.Needs.{needs}
 use mathlib.Core.Path.{sym, _∙_}
+use Rattle.reply.proofs.Numbers.{same-verdict}
 use Rattle.locate.proofs.batch_verdict.Statement.{statement}
 use Rattle.locate.proofs.batch_verdict.Tie as tie
 
@@ -16,8 +17,8 @@ returns-3 c =
     rw (
       sym (c .before .before .before .before .bad-frame .ensures) ∙ c .before .before .before .if1 .left,
       sym (c .before .before .bad-rows .ensures) ∙ c .before .if2 .left,
-      c .verdict .ensures,
     )
+    (same-verdict (c .verdict .ensures))
 
 pub batch-verdict-spec : {M : Type 1} → statement M
 batch-verdict-spec =

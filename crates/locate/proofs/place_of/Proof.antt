@@ -5,6 +5,7 @@ use mathlib.Core.List.{_++_}
 use Rattle.reply.specs.declared.Verdict.{Verdict}
 use Rattle.reply.specs.Replies.{first, reply}
 use Rattle.reply.proofs.Entries.{refuses}
+use Rattle.reply.proofs.Numbers.{same-verdict}
 use Rattle.vec3d.specs.Vectors.{vectorReasons}
 use Rattle.vec3d.proofs.Series.{series-fine, series-refused}
 use Rattle.faceijk.specs.Places.{placeValues}
@@ -15,7 +16,7 @@ use Rattle.locate.proofs.place_of.Tie as tie
 on-nearest-requires : tie.Need-on-nearest-requires
 on-nearest-requires c κs =
     let start = c .before .before .before .before .before in
-    let fine = sym (c .before .before .verdict .ensures) ∙ c .enum-told .given .1 in
+    let fine = sym (same-verdict (c .before .before .verdict .ensures)) ∙ c .enum-told .given .1 in
     let n = c .before .before .before in
     (record { frame = start .pre .0 .frame; level = start .pre .0 .level; vector = fine }, rw (n .new .ensures) (start .pre .1 (rw (n .new .ensures) at fine)))
 
@@ -24,7 +25,7 @@ returns c =
     let n = c .before .before .before .before in
     let a = n .before .before .args in
     let p = n .new .result in
-    let fine = sym (c .before .before .before .verdict .ensures) ∙ c .before .enum-told .given .1 in
+    let fine = sym (same-verdict (c .before .before .before .verdict .ensures)) ∙ c .before .enum-told .given .1 in
     rw (n .new .ensures) at
     (c .on-nearest .ensures
     ∙ ap (λ (v : Verdict). reply 4 v (placeValues (placeOf (a .frame .now) (a .level) p)))
@@ -38,7 +39,7 @@ returns-2 c =
     rw (n .new .ensures) at
     (refuses 4 (first (vectorReasons p ++ frontReasons (a .frame .now) (a .level) p)) (placeValues (placeOf (a .frame .now) (a .level) p)) _
     (series-refused (vectorReasons p) (frontReasons (a .frame .now) (a .level) p) _
-    (sym (c .before .before .before .verdict .ensures) ∙ c .before .verdict2 .given .1)))
+    (sym (same-verdict (c .before .before .before .verdict .ensures)) ∙ c .before .verdict2 .given .1)))
 
 pub place-of-spec : {M : Type 1} → statement M
 place-of-spec =

@@ -4,9 +4,12 @@ use borrow.Author.Tests.{ne-eqb}
 use mathlib.Core.Path.{_≡_, sym, ap, _∙_}
 use mathlib.Core.Bool.{false}
 use mathlib.Core.Logic.{⊎-elim}
+use Rattle.reply.specs.declared.Verdict.the-variants.{Fine}
 use Rattle.reply.specs.Replies.{answer}
 use Rattle.reply.proofs.Entries.{answers, refuses}
+use Rattle.reply.proofs.Numbers.{same-verdict}
 use Rattle.vec3d.specs.declared.Nearest.{Nearest}
+use Rattle.vec3d.specs.Vectors.{vectorVerdict}
 use Rattle.vec3d.specs.Frame.{badFrame}
 use Rattle.vec3d.specs.Nearest.{nearestValues}
 use Rattle.vec3d.proofs.OnePass.{by-faces}
@@ -33,13 +36,14 @@ framed c =
 returns-3 : tie.Need-returns-3
 returns-3 c =
     let join = c .before .before .before in
-    let fine = sym (c .before .before .verdict .ensures) ∙ c .enum-told .given .1 in
-    rw (framed join) (answers 2 _ _ _ fine (ap (λ (n : Nearest). answer (nearestValues n)) (join .before .before .look .ensures .1 (framed join) fine)))
+    let p = join .before .before .before .before .before .args .p in
+    let fine : vectorVerdict p ≡ Fine = sym (same-verdict (c .before .before .verdict .ensures)) ∙ c .enum-told .given .1 in
+    rw (framed join) (answers 2 (vectorVerdict p) _ _ fine (ap (λ (n : Nearest). answer (nearestValues n)) (join .before .before .look .ensures .1 (framed join) fine)))
 
 returns-4 : tie.Need-returns-4
 returns-4 c =
     let v = c .before .before .before in
-    rw (framed (v .before)) (refuses 2 _ _ _ (sym (v .verdict .ensures) ∙ c .before .verdict2 .given .1))
+    rw (framed (v .before)) (refuses 2 (vectorVerdict (v .before .before .before .before .before .before .args .p)) _ _ (sym (same-verdict (v .verdict .ensures)) ∙ c .before .verdict2 .given .1))
 
 pub nearest-face-spec : {M : Type 1} → statement M
 nearest-face-spec =

@@ -8,6 +8,7 @@ use Rattle.reply.specs.declared.Verdict.the-variants.{Fine, Refused}
 use Rattle.reply.specs.declared.Refusal.{Refusal}
 use Rattle.reply.specs.declared.Refusal.the-variants.{NotReduced}
 use Rattle.reply.proofs.Entries.{passed, found}
+use Rattle.reply.proofs.Numbers.{same-verdict}
 use Rattle.coordijk.specs.declared.CoordIJK.{CoordIJK}
 use Rattle.coordijk.specs.Coordinates.{notReduced, verdictOf}
 use Rattle.faceijk.specs.Places.{coordOf}
@@ -31,14 +32,14 @@ returns c = simp (c .if1 .taken)
 returns-2 : tie.Need-returns-2
 returns-2 c =
     let a = c .before .before .before .before .before .before .before .before .before .args in
-    let here = c .before .before .before .before .verdict .ensures ∙ ap verdictOf (c .before .before .before .before .before .coord .ensures) in
+    let here = same-verdict (c .before .before .before .before .verdict .ensures) ∙ ap verdictOf (c .before .before .before .before .before .coord .ensures) in
     simp (c .before .before .before .before .before .before .if1 .left)
-    (c .verdict2 .ensures ∙ (ap verdictOf (c .before .coord2 .ensures) ∙ second (coordOf (a .self)) (coordOf (a .other)) (sym here ∙ c .before .before .enum-told .given .1)))
+    (same-verdict (c .verdict2 .ensures) ∙ (ap verdictOf (c .before .coord2 .ensures) ∙ second (coordOf (a .self)) (coordOf (a .other)) (sym here ∙ c .before .before .enum-told .given .1)))
 
 returns-3 : tie.Need-returns-3
 returns-3 c =
     let a = c .before .before .before .before .before .before .before .before .args in
-    let here = c .before .before .before .verdict .ensures ∙ ap verdictOf (c .before .before .before .before .coord .ensures) in
+    let here = same-verdict (c .before .before .before .verdict .ensures) ∙ ap verdictOf (c .before .before .before .before .coord .ensures) in
     simp (c .before .before .before .before .before .if1 .left) (first-one (coordOf (a .self)) (coordOf (a .other)) _ (sym here ∙ c .before .here .given .1))
 
 pub verdict-with-spec : {M : Type 1} → statement M
