@@ -8,5 +8,4 @@ pub mod Back
 pub mod Crossing
 pub mod Settling
 pub mod Demand3
-pub mod Checked
 pub mod Unique

@@ -5,4 +5,3 @@ pub mod Steps
 pub mod Crossing
 pub mod Walking
 pub mod Entries
-pub mod Checked

@@ -3,5 +3,4 @@ pub mod Paths
 pub mod Stepping
 pub mod Meeting
 pub mod Writing
-pub mod Checked
 pub mod Laws

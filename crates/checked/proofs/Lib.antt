@@ -1,0 +1,2 @@
+-- Laws of `checked`: the starred cases hold.
+pub mod Starred
