@@ -2,8 +2,8 @@
 use mathlib.Core.Bool.{Bool, true, false, not, _&&_, _||_}
 use mathlib.Core.List.{List, [], _∷_}
 use Prim.Native.Nat.{ℕ, _+_, _^_}
-use lib.IntN.{ℤ, pos, negℤ, natAbs, _+ℤ_, _-ℤ_, _*ℤ_}
-use lib.Signed.{leZ, quotZ, remZ}
+use lib.IntN.{ℤ, pos, negℤ, _+ℤ_, _-ℤ_, _*ℤ_}
+use lib.Signed.{quotZ, remZ}
 use lib.Ieee.{Float, binary64, ofBits, add, sub, mul, div, lt, le}
 use Rattle.reply.specs.Choice.{pick}
 use Rattle.reply.specs.declared.Verdict.{Verdict}
@@ -12,7 +12,8 @@ use Rattle.reply.specs.Replies.{Reason, when, first, Reply, answer, refusal, re
 use Rattle.double.specs.Double.{nought, half, one, two, three, rsin60, limit, sizeOf, wholeOf, leftOf}
 use Rattle.double.specs.Sizes.{Under}
 use Rattle.coordijk.specs.declared.CoordIJK.{CoordIJK}
-use Rattle.coordijk.specs.Coordinates.{coord, coordValues}
+use Rattle.coordijk.specs.Coordinates.{coordValues}
+use Rattle.coordijk.specs.Signed.{signed, reducedZ}
 use Rattle.vec2d.specs.declared.Vec2d.{Vec2d}
 use Rattle.vec2d.specs.declared.Quantized.{Quantized}
 use Rattle.vec2d.specs.declared.Steps.{Steps}
@@ -78,17 +79,10 @@ leftFold i j =
 abbrev pub downFold : ℤ → ℤ → ℤ
 downFold i j = i -ℤ quotZ (pos 2 *ℤ j +ℤ pos 1) (pos 2)
 
--- Reducing, where a coordinate may be below zero: the least is subtracted from all three.
-abbrev pub leastZ : ℤ → ℤ → ℤ
-leastZ a b = pick (leZ a b) a b
-
-abbrev pub reducedZ : ℤ → ℤ → ℤ → CoordIJK
-reducedZ i j k = let l = leastZ i (leastZ j k) in coord (natAbs (i -ℤ l)) (natAbs (j -ℤ l)) (natAbs (k -ℤ l))
-
 unfoldable pub foldOf : Bool → Bool → ℕ → ℕ → CoordIJK
 foldOf left down i j =
     let across = pick left (leftFold (pos i) (pos j)) (pos i) in
-    reducedZ (pick down (downFold across (pos j)) across) (pick down (negℤ (pos j)) (pos j)) (pos 0)
+    reducedZ (signed (pick down (downFold across (pos j)) across) (pick down (negℤ (pos j)) (pos j)) (pos 0))
 
 -- The hexagon of an accepted point. Minus zero is not below zero.
 unfoldable pub nearestOf : Vec2d → CoordIJK
