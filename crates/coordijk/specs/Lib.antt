@@ -1,3 +1,4 @@
--- Definitions of `coordijk`: coordinates and the table of maps.
+-- Definitions of `coordijk`: coordinates, the table of maps, coordinates with sign.
 pub mod Coordinates
 pub mod Maps
+pub mod Signed

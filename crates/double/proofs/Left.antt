@@ -23,7 +23,7 @@ use Rattle.double.proofs.Nonnegative.{signed, whole-le}
 
 -- ---- what the format says of a value's digits and its denominator
 
-pow-le-back : (i p : ℕ) → 2 ^ i ≤ 2 ^ p → i ≤ p
+pub pow-le-back : (i p : ℕ) → 2 ^ i ≤ 2 ^ p → i ≤ p
 pow-le-back i p h = le-of-suc-le-suc (lt-of-not-le (λ (g : suc p ≤ i). lt-irrefl (2 ^ p) (lt-of-lt-of-le (pow-lt g) h)))
 
 one-of-two : (u d : ℕ) → 0 < u → u * d ≡ 1 → d ≤ 2 ^ 1074
@@ -32,7 +32,7 @@ one-of-two u d h e =
     let b : d ≤ 1 = omega arith in
     le-trans b (lit≤ tt)
 
-fits-digits : (s : Bool) (m : ℕ) (e : ℤ) → T (fits binary64 (fin s m e)) → (m < 2 ^ 53) × (down e ≤ 2 ^ 1074)
+pub fits-digits : (s : Bool) (m : ℕ) (e : ℤ) → T (fits binary64 (fin s m e)) → (m < 2 ^ 53) × (down e ≤ 2 ^ 1074)
 unfolding fits
 fits-digits s zero e h = (lit< tt, one-of-two (up e) (down e) (up-pos e) (eqb→eq (up e * down e) 1 h))
 fits-digits s (suc m) e h =

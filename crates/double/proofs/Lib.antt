@@ -1,4 +1,4 @@
--- Laws of `double`: doubles that more than one crate needs: sizes, leftovers, bits.
+-- Laws of `double`: doubles that more than one crate needs: sizes, leftovers, bits, a sum of a product rounded once.
 pub mod Literals
 pub mod Sign
 pub mod Sizes
@@ -7,3 +7,4 @@ pub mod Tests
 pub mod Squares
 pub mod Left
 pub mod Whole
+pub mod Once

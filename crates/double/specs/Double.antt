@@ -1,8 +1,8 @@
 -- Doubles in the paper's words: the numbers that it names, sizes, whole parts and leftovers, and its sum of a product.
 use mathlib.Core.Bool.{Bool, true, false}
-use Prim.Native.Nat.{ℕ, _^_}
+use Prim.Native.Nat.{ℕ, _*_, _^_}
 use lib.IntN.{pos}
-use lib.Ieee.{Float, nan, inf, fin, binary64, round, ofBits, add, sub, mul, ofInt, toUnsigned}
+use lib.Ieee.{Float, nan, inf, fin, binary64, up, down, unlike, round, ofBits, sum, add, sub, mul, ofInt, toUnsigned}
 use Rattle.double.specs.declared.Parts.{Parts}
 
 -- the double nearest to n / 10 ^ d: what the literal of n with d decimals stands for; and the same below zero
@@ -81,3 +81,14 @@ partsOf x = record { whole = wholeOf x; left = leftOf x }
 -- a · b + c: a product and a sum, each rounded
 unfoldable pub mulAdd : Float → Float → Float → Float
 mulAdd a b c = add binary64 (mul binary64 a b) c
+
+-- a · b + c rounded once: the exact product and c over one divisor, and one rounding of their sum. Of finite numbers only: any other gives a NaN
+unfoldable pub mulAddOnce : Float → Float → Float → Float
+mulAddOnce nan b c = nan
+mulAddOnce (inf s) b c = nan
+mulAddOnce (fin s m e) nan c = nan
+mulAddOnce (fin s m e) (inf t) c = nan
+mulAddOnce (fin s m e) (fin t n d) nan = nan
+mulAddOnce (fin s m e) (fin t n d) (inf u) = nan
+mulAddOnce (fin s m e) (fin t n d) (fin u k g) =
+    sum binary64 (unlike s t) (m * up e * (n * up d) * down g) u (k * up g * (down e * down d)) (down e * down d * down g)

@@ -20,7 +20,7 @@ use Rattle.faceijk.specs.Steps.{stepOf}
 abbrev pub edgeOut : Place → ℕ
 edgeOut p = pick (ltb 0 (p .k)) (pick (ltb 0 (p .j)) 3 2) 1
 
--- a CW sixth turn about (m,0,0). Taking (m,0,0) away and adding (0,m,m) reduce to the same
+-- a CW sixth turn about (m,0,0): `turnedAbout` (Turn) without numbers below zero. Taking (m,0,0) away and adding (0,m,m) reduce to the same
 unfoldable pub aboutCorner : ℕ → CoordIJK → CoordIJK
 aboutCorner m c =
     let q = mapOf SixthTurnCw (coord (c .i) (c .j + m) (c .k + m)) in

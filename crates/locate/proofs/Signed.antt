@@ -13,7 +13,7 @@ use Rattle.reply.specs.declared.Refusal.{Refusal}
 use Rattle.reply.specs.declared.Refusal.the-variants.{BadFrame, BadRows, BadFace, BadLevel, BadRange, BadNumber, OffSphere, Behind, TooFar, NotReduced, OutOfFace, NotAdjacent, NoCrossing, BadLine}
 use Rattle.reply.specs.Replies.{numberOf}
 use Rattle.reply.proofs.Numbers.{number-pos}
-use Rattle.vec2d.proofs.Differences.{diff-neg}
+use Rattle.coordijk.proofs.Differences.{diff-neg}
 
 pub seen : (x : ℕ) → x < 2 ^ 31 → toZ w32 x ≡ pos x
 seen x h = toZ-ofZ w32 (pos x) (record { sfits = h })

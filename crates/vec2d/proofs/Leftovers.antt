@@ -1,16 +1,19 @@
--- The leftovers of an accepted point are exact, at least 0 and below 1. Assumes nothing.
-use mathlib.Core.Path.{_≡_}
-use mathlib.Core.Bool.{false}
+-- The leftovers of an accepted point are exact, at least 0 and below 1, and 2·r1 - 1 is the same rounded once or twice. Assumes nothing.
+use mathlib.Core.Path.{_≡_, refl}
+use mathlib.Core.Bool.{true, false}
 use Prim.Native.Nat.{_-_, _/_, _%_, _^_}
-use lib.Dec.{lit≤}
-use lib.Ieee.{binary64}
+use native.Mathlib.Nat.{mod-lt}
+use lib.Dec.{T, lit≤}
+use lib.Ieee.{Float, binary64, fits, ofBits, neg, sub, mul}
 use lib.Ieee.Exact.{HasValue}
-use lib.Ieee.Fits.{add-fits, mul-fits}
-use lib.Ieee.Positive.{num, den}
+use lib.Ieee.Fits.{add-fits, sub-fits, mul-fits}
+use lib.Ieee.Positive.{num, den, den-pos}
 use Rattle.reply.specs.declared.Verdict.the-variants.{Fine}
+use Rattle.double.specs.Double.{finite, one, two, leftOf, mulAdd, mulAddOnce}
 use Rattle.double.specs.Sizes.{Upto}
 use Rattle.double.proofs.Nonnegative.{upto-le}
 use Rattle.double.proofs.Left.{InUnit, whole-value, left-value, left-range}
+use Rattle.double.proofs.Once.{unit-once}
 use Rattle.vec2d.specs.declared.Vec2d.{Vec2d}
 use Rattle.vec2d.specs.Rounding.{roundVerdict, Near, x1Of, x2Of, quantizedOf}
 use Rattle.vec2d.proofs.Accepted.{accepted, first-upto, second-upto}
@@ -46,3 +49,18 @@ unfolding quantizedOf
 in-unit v e =
     let p = accepted v e in
     (left-range (x1Of v) (add-fits binary64 _ _) (wide-first v p), left-range (x2Of v) (mul-fits binary64 _ _) (wide-second v p))
+
+fitting : (x : Float) → T (fits binary64 (leftOf x))
+fitting x = sub-fits binary64 x _
+
+minus-one : finite (neg one) ≡ true
+unfolding neg ofBits
+minus-one = refl
+
+-- `mul_add(2.0, r1, -1.)` of the branches has the same bits rounded once or twice: 2·r1 is exact.
+pub same-bits : (v : Vec2d) → roundVerdict v ≡ Fine →
+    let r1 = quantizedOf v .r1 in
+    mulAddOnce two r1 (neg one) ≡ sub binary64 (mul binary64 two r1) one
+unfolding quantizedOf mulAdd sub
+same-bits v e =
+    unit-once (quantizedOf v .r1) (neg one) _ _ (fitting (x1Of v)) (exact v e .left1) (mod-lt (num (x1Of v)) (den-pos (x1Of v))) minus-one

@@ -11,7 +11,7 @@ use lib.Ieee.Fits.{down-pos}
 use lib.Ieee.Exact.{HasValue}
 use lib.Ieee.Scale.{round-same}
 use lib.Ieee.Back.{round-whole}
-use Rattle.vec2d.proofs.Differences.{View, view, diff-pos, diff-neg}
+use Rattle.coordijk.proofs.Differences.{View, view, diff-pos, diff-neg}
 use lib.Arith.{le→nltb}
 use lib.Ieee.Bits.{cond-no}
 

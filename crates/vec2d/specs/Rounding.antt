@@ -2,8 +2,8 @@
 use mathlib.Core.Bool.{Bool, true, false, not, _&&_, _||_}
 use mathlib.Core.List.{List, [], _∷_}
 use Prim.Native.Nat.{ℕ, _+_, _^_}
-use lib.IntN.{ℤ, pos, negℤ, natAbs, _+ℤ_, _-ℤ_, _*ℤ_}
-use lib.Signed.{leZ, quotZ, remZ}
+use lib.IntN.{ℤ, pos, negℤ, _+ℤ_, _-ℤ_, _*ℤ_}
+use lib.Signed.{quotZ, remZ}
 use lib.Ieee.{Float, binary64, ofBits, add, sub, mul, div, lt, le}
 use Rattle.reply.specs.Choice.{pick}
 use Rattle.reply.specs.declared.Verdict.{Verdict}
@@ -12,7 +12,8 @@ use Rattle.reply.specs.Replies.{Reason, when, first, Reply, answer, refusal, re
 use Rattle.double.specs.Double.{nought, half, one, two, three, rsin60, limit, sizeOf, wholeOf, leftOf}
 use Rattle.double.specs.Sizes.{Under}
 use Rattle.coordijk.specs.declared.CoordIJK.{CoordIJK}
-use Rattle.coordijk.specs.Coordinates.{coord, coordValues}
+use Rattle.coordijk.specs.Coordinates.{coordValues}
+use Rattle.coordijk.specs.Signed.{signed, reducedZ}
 use Rattle.vec2d.specs.declared.Vec2d.{Vec2d}
 use Rattle.vec2d.specs.declared.Quantized.{Quantized}
 use Rattle.vec2d.specs.declared.Steps.{Steps}
@@ -53,7 +54,7 @@ x1Of v = add binary64 (sizeOf (v .x)) (div binary64 (x2Of v) two)
 unfoldable pub quantizedOf : Vec2d → Quantized
 quantizedOf v = record { m1 = wholeOf (x1Of v); m2 = wholeOf (x2Of v); r1 = leftOf (x1Of v); r2 = leftOf (x2Of v) }
 
--- The branches in the source's order, by the leftovers: whether i is m1 + 1, and whether j is m2 + 1. `mul_add(2.0, r1, -1.)` is 2·r1 - 1, whose product is exact.
+-- The branches in the source's order, by the leftovers: whether i is m1 + 1, and whether j is m2 + 1. `mul_add(2.0, r1, -1.)` is 2·r1 - 1, which has the same bits rounded once or twice (`same-bits` of proofs/Leftovers).
 unfoldable pub stepsOf : Float → Float → Steps
 stepsOf r1 r2 =
     let rest = sub binary64 one r1 in
@@ -78,17 +79,10 @@ leftFold i j =
 abbrev pub downFold : ℤ → ℤ → ℤ
 downFold i j = i -ℤ quotZ (pos 2 *ℤ j +ℤ pos 1) (pos 2)
 
--- Reducing, where a coordinate may be below zero: the least is subtracted from all three.
-abbrev pub leastZ : ℤ → ℤ → ℤ
-leastZ a b = pick (leZ a b) a b
-
-abbrev pub reducedZ : ℤ → ℤ → ℤ → CoordIJK
-reducedZ i j k = let l = leastZ i (leastZ j k) in coord (natAbs (i -ℤ l)) (natAbs (j -ℤ l)) (natAbs (k -ℤ l))
-
 unfoldable pub foldOf : Bool → Bool → ℕ → ℕ → CoordIJK
 foldOf left down i j =
     let across = pick left (leftFold (pos i) (pos j)) (pos i) in
-    reducedZ (pick down (downFold across (pos j)) across) (pick down (negℤ (pos j)) (pos j)) (pos 0)
+    reducedZ (signed (pick down (downFold across (pos j)) across) (pick down (negℤ (pos j)) (pos j)) (pos 0))
 
 -- The hexagon of an accepted point. Minus zero is not below zero.
 unfoldable pub nearestOf : Vec2d → CoordIJK

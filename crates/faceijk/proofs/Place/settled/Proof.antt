@@ -21,7 +21,7 @@ out-requires : tie.Need-out-requires Inv-loop μ-loop
 out-requires c κs = let now = c .before .loop .inv .0 in (now .okay, now .sound)
 
 add-steps : tie.Need-add-steps Inv-loop μ-loop
-add-steps c = record { fits = going-few _ _ _ _ (c .before .before .loop .inv .0) }
+add-steps c = record { fits = omega (arith, going-few _ _ _ _ (c .before .before .loop .inv .0)) }
 
 loop-less : tie.Need-loop-less Inv-loop μ-loop
 loop-less c = going-less _ _ _ _ (c .before .before .before .loop .inv .0) (omega arith) _ (c .before .out .ensures)

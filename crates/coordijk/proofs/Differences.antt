@@ -1,10 +1,14 @@
 -- A difference of two natural numbers over ℤ, read by its value, and what each operation does to it. Assumes nothing.
-use mathlib.Core.Path.{_≡_, sym, ap, _∙_}
+use mathlib.Core.Path.{_≡_, refl, sym, ap, _∙_}
 use mathlib.Core.Bool.{Bool, true, false, not, cond}
 use Prim.Native.Nat.{ℕ, zero, suc, _+_, _-_, _*_, _≤_, _<_}
 use native.Mathlib.Omega.{arith}
 use lib.IntN.{ℤ, pos, negsuc, negℤ, _+ℤ_, _-ℤ_, _*ℤ_}
-use lib.Dec.{T, ltb, ltb→lt, nltb→le}
+use native.Mathlib.Nat.{lt-of-not-le}
+use native.Mathlib.Decide.{decLe}
+use lib.Signed.{leZ}
+use lib.Dec.{T, ltb, leb, ltb→lt, nltb→le}
+use borrow.Author.Tests.{le-leb, lt-leb}
 
 by-test : {X : Type 0} (b : Bool) (x y z : X) → (T b → x ≡ z) → (T (not b) → y ≡ z) → cond b x y ≡ z
 by-test true x y z f g = f tt
@@ -63,14 +67,17 @@ same a b c d e = go (view a b)
     go (up n p) = diff-pos a b n p ∙ sym (diff-pos c d n (omega arith))
     go (down n p) = diff-neg a b n p ∙ sym (diff-neg c d n (omega arith))
 
-pub twice : (a b : ℕ) → pos 2 *ℤ (pos a -ℤ pos b) ≡ pos (2 * a) -ℤ pos (2 * b)
-twice a b = go (view a b)
+-- 0 - n
+pub from-nought : (n : ℕ) → pos 0 -ℤ pos n ≡ negℤ (pos n)
+from-nought zero = refl
+from-nought (suc n) = diff-neg 0 (suc n) n (omega arith)
+
+pub times : (k a b : ℕ) → pos k *ℤ (pos a -ℤ pos b) ≡ pos (k * a) -ℤ pos (k * b)
+times k a b = go (view a b)
   where
-    go : View a b → pos 2 *ℤ (pos a -ℤ pos b) ≡ pos (2 * a) -ℤ pos (2 * b)
-    go (up n p) = ap (λ (z : ℤ). pos 2 *ℤ z) (diff-pos a b n p) ∙ sym (diff-pos (2 * a) (2 * b) (2 * n) (omega arith))
-    go (down n p) =
-        let e : 2 * suc n ≡ suc (2 * n + 1) = omega arith in
-        ap (λ (z : ℤ). pos 2 *ℤ z) (diff-neg a b n p) ∙ ap (λ (k : ℕ). negℤ (pos k)) e ∙ sym (diff-neg (2 * a) (2 * b) (2 * n + 1) (omega arith))
+    go : View a b → pos k *ℤ (pos a -ℤ pos b) ≡ pos (k * a) -ℤ pos (k * b)
+    go (up n p) = ap (λ (z : ℤ). pos k *ℤ z) (diff-pos a b n p) ∙ sym (diff-pos (k * a) (k * b) (k * n) (omega (arith, ap (λ (z : ℕ). k * z) p)))
+    go (down n p) = ap (λ (z : ℤ). pos k *ℤ z) (diff-neg a b n p) ∙ sym (from-nought (k * suc n)) ∙ same 0 (k * suc n) (k * a) (k * b) (omega (arith, ap (λ (z : ℕ). k * z) p))
 
 pub plus : (a b c : ℕ) → (pos a -ℤ pos b) +ℤ pos c ≡ pos (a + c) -ℤ pos b
 plus a b c = go (view a b)
@@ -93,3 +100,42 @@ less a b c = go c (view a b)
     go c (up n p) = ap (λ (z : ℤ). z -ℤ pos c) (diff-pos a b n p) ∙ same n c a (b + c) (omega arith)
     go zero (down n p) = ap (λ (z : ℤ). z -ℤ pos 0) (diff-neg a b n p) ∙ same 0 (suc n) a (b + 0) (omega arith)
     go (suc c) (down n p) = ap (λ (z : ℤ). z -ℤ pos (suc c)) (diff-neg a b n p) ∙ sym (diff-neg a (b + suc c) (suc (n + c)) (omega arith))
+
+pub sum : (a b c d : ℕ) → (pos a -ℤ pos b) +ℤ (pos c -ℤ pos d) ≡ pos (a + c) -ℤ pos (b + d)
+sum a b c d = go (view c d)
+  where
+    go : View c d → (pos a -ℤ pos b) +ℤ (pos c -ℤ pos d) ≡ pos (a + c) -ℤ pos (b + d)
+    go (up n p) = ap (λ (z : ℤ). (pos a -ℤ pos b) +ℤ z) (diff-pos c d n p) ∙ plus a b n ∙ same (a + n) b (a + c) (b + d) (omega arith)
+    go (down n p) = ap (λ (z : ℤ). (pos a -ℤ pos b) +ℤ z) (diff-neg c d n p) ∙ less a b (suc n) ∙ same a (b + suc n) (a + c) (b + d) (omega arith)
+
+-- a row of a table applied to differences
+pub line : (p q r a a' b b' c c' : ℕ)
+    → pos p *ℤ (pos a -ℤ pos a') +ℤ pos q *ℤ (pos b -ℤ pos b') +ℤ pos r *ℤ (pos c -ℤ pos c') ≡ pos (p * a + q * b + r * c) -ℤ pos (p * a' + q * b' + r * c')
+line p q r a a' b b' c c' =
+    (λ n. times p a a' n +ℤ times q b b' n +ℤ times r c c' n)
+    ∙ ap (λ (z : ℤ). z +ℤ (pos (r * c) -ℤ pos (r * c'))) (sum (p * a) (p * a') (q * b) (q * b'))
+    ∙ sum (p * a + q * b) (p * a' + q * b') (r * c) (r * c')
+
+-- with one number taken off both, a test and a difference are those of the numbers
+pub order : (a b d : ℕ) → leZ (pos a -ℤ pos d) (pos b -ℤ pos d) ≡ leb a b
+order a b d = go (view a d) (view b d)
+  where
+    by : (x y : ℤ) → pos a -ℤ pos d ≡ x → pos b -ℤ pos d ≡ y → leZ x y ≡ leb a b → leZ (pos a -ℤ pos d) (pos b -ℤ pos d) ≡ leb a b
+    by x y p q e = rw (p, q) e
+
+    alike : (x y : ℕ) → (x ≤ y → a ≤ b) → (y < x → b < a) → leb x y ≡ leb a b
+    alike x y f g =
+        elim (decLe x y) [ yes h ↦ le-leb x y h ∙ sym (le-leb a b (f h)) | no h ↦ lt-leb x y (lt-of-not-le h) ∙ sym (lt-leb a b (g (lt-of-not-le h))) ]
+
+    go : View a d → View b d → leZ (pos a -ℤ pos d) (pos b -ℤ pos d) ≡ leb a b
+    go (up n p) (up m q) = by (pos n) (pos m) (diff-pos a d n p) (diff-pos b d m q) (alike n m (λ h. omega arith) (λ h. omega arith))
+    go (up n p) (down m q) = by (pos n) (negsuc m) (diff-pos a d n p) (diff-neg b d m q) (sym (lt-leb a b (omega arith)))
+    go (down n p) (up m q) = by (negsuc n) (pos m) (diff-neg a d n p) (diff-pos b d m q) (sym (le-leb a b (omega arith)))
+    go (down n p) (down m q) = by (negsuc n) (negsuc m) (diff-neg a d n p) (diff-neg b d m q) (alike m n (λ h. omega arith) (λ h. omega arith))
+
+pub apart : (a l d : ℕ) → l ≤ a → (pos a -ℤ pos d) -ℤ (pos l -ℤ pos d) ≡ pos (a - l)
+apart a l d h = go (view l d)
+  where
+    go : View l d → (pos a -ℤ pos d) -ℤ (pos l -ℤ pos d) ≡ pos (a - l)
+    go (up n p) = ap (λ (z : ℤ). (pos a -ℤ pos d) -ℤ z) (diff-pos l d n p) ∙ less a d n ∙ diff-pos a (d + n) (a - l) (omega arith)
+    go (down n p) = ap (λ (z : ℤ). (pos a -ℤ pos d) -ℤ z) (diff-neg l d n p) ∙ plus a d (suc n) ∙ diff-pos (a + suc n) d (a - l) (omega arith)
