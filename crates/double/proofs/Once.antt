@@ -15,7 +15,7 @@ use lib.Ieee.Fits.{down-pos}
 use lib.Ieee.Exact.{HasValue, round-exact}
 use lib.Ieee.Positive.{num, den}
 use lib.Ieee.Scale.{round-same}
-use Rattle.double.specs.Double.{finite, two, mulAdd, mulAddOnce}
+use Rattle.double.specs.Double.{finite, nought, two, mulAdd, mulAddOnce}
 use Rattle.double.proofs.Left.{pow-le-back, fits-digits}
 
 -- ---- a sum does not turn on the divisor it is written over
@@ -138,3 +138,14 @@ unit-once (fin s m e) c a d f v h g = doubled-once (fin s m e) c f refl (lt-of-l
 
     room : down e ≤ 2 ^ 1023 * down e
     room = subst (λ (z : ℕ). z ≤ 2 ^ 1023 * down e) (one-mul (down e)) (mul-le-mul-right (down e) (lit≤ tt))
+
+-- Elsewhere the two differ: the square of 1 + 2^-52, less 1 + 2^-51, is 2^-104 rounded once and 0 rounded twice.
+abbrev next : Float
+next = ofBits binary64 0x3ff0_0000_0000_0001
+
+abbrev off : Float
+off = ofBits binary64 0xbff0_0000_0000_0002
+
+pub elsewhere : (mulAddOnce next next off ≡ ofBits binary64 0x3970_0000_0000_0000) × (mulAdd next next off ≡ nought)
+unfolding ofBits mulAddOnce mulAdd mul add sum round
+elsewhere = (refl, refl)
