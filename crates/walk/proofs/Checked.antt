@@ -7,7 +7,7 @@ use Rattle.coordijk.specs.Maps.{mapOf, turnsOf}
 use Rattle.faceijk.specs.Steps.{moveOver, stepOf}
 use Rattle.faceijk.specs.Crossing.{aboutCorner, stepOut, crossingOf, settleFrom}
 use Rattle.walk_lines.specs.Lines.{digitsTo, decimal, field, placeFields, placeLine, restLine, refusedLine}
-use Rattle.walk_question.specs.Reading.{withDigit, numberAt, spacedAt, lastAt, kindAt, ofFields, readingOf}
+use Rattle.walk_question.specs.Cursor.{withDigit, numberAt, spacedAt, lastAt, kindAt, ofFields, readingOf}
 use Rattle.walk.specs.Texts.{pathFrom, path, questionText}
 use Rattle.walk.specs.Checked.{Case, cases}
 

@@ -8,15 +8,26 @@ use native.Mathlib.Omega.{arith}
 use lib.ListN.{length, take, drop, length-append, take-append-drop}
 use lib.Seq.{length-take-le}
 use Rattle.walk_lines.specs.declared.Line.{Line}
-use Rattle.walk_lines.specs.Lines.{lineText}
-use Rattle.walk_question.specs.Reading.{readingOf}
+use Rattle.reply.specs.declared.Refusal.the-variants.{BadLine}
+use Rattle.walk_lines.specs.Lines.{lineText, refusedLine}
+use Rattle.walk_question.specs.declared.Question.{Question}
+use Rattle.walk_question.specs.Reading.{Asks}
+use Rattle.walk_question.specs.Cursor.{readingOf}
+use Rattle.walk_question.proofs.Asking.{reads, malformed}
 use Rattle.walk.specs.declared.State.{State}
 use Rattle.walk.specs.declared.Step.{Step}
 use Rattle.walk.specs.declared.Written.{Written}
-use Rattle.walk.specs.Texts.{textOf, stepOf, inputText, begunFrom}
+use Rattle.walk.specs.Texts.{textOf, stepOf, questionText, readingText, inputText, begunFrom}
 use Rattle.walk.specs.Writing.{Lines, none, more, Stopped, ended, full, Wrote}
 use Rattle.walk.proofs.Stepping.{lines-text, begun-text, text-step, textOfStep}
 use Rattle.walk.proofs.Writing.{line-some}
+
+-- a line that asks q has q's text, and a line that asks nothing is refused with 14
+pub asked-text : (input : List ℕ) (q : Question) → Asks q input → inputText input ≡ questionText q
+asked-text input q a = ap readingText (reads input q .1 a)
+
+pub malformed-text : (input : List ℕ) → ((q : Question) → Asks q input → ⊥) → inputText input ≡ refusedLine BadLine
+malformed-text input h = ap readingText (malformed input .1 h)
 
 -- the walk of an input has that input's whole text to print
 pub whole-text : (input : List ℕ) → textOf (begunFrom (readingOf input)) ≡ inputText input

@@ -5,7 +5,7 @@ use Prim.Native.Nat.{ℕ, zero, suc, _+_, _-_, _≤_, _<_}
 use native.Mathlib.Numerals.{add-one}
 use native.Mathlib.Omega.{arith}
 use lib.ListN.{length, take, drop, set, getD, replicate, length-append, length-replicate}
-use lib.Seq.{sets, sets-eq, take-suc, take-append-seam, take-at, drop-append-add}
+use lib.Seq.{sets, sets-eq, take-suc, take-append-seam, drop-append-add}
 use Rattle.walk_lines.specs.declared.Text.{Text}
 use Rattle.walk_lines.specs.Lines.{Put, Spells}
 

@@ -13,7 +13,7 @@ use Rattle.faceijk.specs.declared.Place.{Place}
 use Rattle.walk_question.specs.declared.Digits.{Digits}
 use Rattle.walk_question.specs.declared.Field.{Field}
 use Rattle.walk_question.specs.declared.Reading.{Reading}
-use Rattle.walk_question.specs.Reading.{byteAt, isDigit, digits, withDigit, numberAt, field, spacedAt, endsAt, lastAt, kindAt, questionOf, ofFields, readingOf}
+use Rattle.walk_question.specs.Cursor.{byteAt, isDigit, digits, withDigit, numberAt, field, spacedAt, endsAt, lastAt, kindAt, questionOf, ofFields, readingOf}
 
 pub both : (a b : Bool) → (a && b) ≡ true → (a ≡ true) × (b ≡ true)
 both true b e = (refl, e)

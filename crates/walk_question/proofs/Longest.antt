@@ -13,7 +13,7 @@ use Rattle.reply.specs.Choice.{pick}
 use Rattle.walk_question.specs.declared.Digits.{Digits}
 use Rattle.walk_question.specs.declared.Question.{Question}
 use Rattle.walk_question.specs.declared.Reading.{Reading}
-use Rattle.walk_question.specs.Reading.{byteAt, isDigit, digits, withDigit, numberAt, spacedAt, endsAt, lastAt, kindAt, faceIn, levelIn, kindIn, iIn, jIn, kIn, questionOf, ofFields, readingOf}
+use Rattle.walk_question.specs.Cursor.{byteAt, isDigit, digits, withDigit, numberAt, spacedAt, endsAt, lastAt, kindAt, faceIn, levelIn, kindIn, iIn, jIn, kIn, questionOf, ofFields, readingOf}
 use Rattle.walk_question.proofs.Fields.{both}
 
 digit-next : (bs : List ℕ) (start : ℕ) (d : Digits) → withDigit bs start d .next ≤ d .next + 1
@@ -24,7 +24,7 @@ digit-next bs start d = go (isDigit (byteAt bs (d .next)) && (eqb (d .next) star
     go true = omega arith
     go false = omega arith
 
-number-next : (k : ℕ) (bs : List ℕ) (start : ℕ) → numberAt k bs start .next ≤ start + k
+pub number-next : (k : ℕ) (bs : List ℕ) (start : ℕ) → numberAt k bs start .next ≤ start + k
 unfolding numberAt
 number-next zero bs start = omega arith
 number-next (suc k) bs start = omega (arith, digit-next bs start (numberAt k bs start), number-next k bs start)
@@ -37,7 +37,7 @@ kind-next : (bs : List ℕ) (at : ℕ) → kindAt bs at .next ≡ at + 2
 unfolding kindAt
 kind-next bs at = refl
 
-either : (a b : Bool) {A : Type 0} → (a || b) ≡ true → (a ≡ true → A) → (b ≡ true → A) → A
+pub either : (a b : Bool) {A : Type 0} → (a || b) ≡ true → (a ≡ true → A) → (b ≡ true → A) → A
 either true b e f g = f refl
 either false b e f g = g e
 
