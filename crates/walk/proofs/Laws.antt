@@ -1,6 +1,6 @@
 -- What writing as many whole lines as fit means: the text goes on where it stopped, it makes progress, and its outcome is one. Assumes nothing.
 use mathlib.Core.Path.{_≡_, refl, sym, ap, subst, _∙_}
-use mathlib.Core.List.{List, [], _++_}
+use mathlib.Core.List.{List, [], _++_, append-assoc, append-nil}
 use Prim.Native.Nat.{ℕ, _+_, _-_, _≤_, _<_}
 use native.Mathlib.Decide.{decLt}
 use native.Mathlib.Nat.{not-suc-le-zero}
@@ -18,7 +18,7 @@ use Rattle.walk.specs.declared.State.{State}
 use Rattle.walk.specs.declared.Step.{Step}
 use Rattle.walk.specs.declared.Written.{Written}
 use Rattle.walk.specs.Texts.{textOf, stepOf, questionText, readingText, inputText, begunFrom}
-use Rattle.walk.specs.Writing.{Lines, none, more, Stopped, ended, full, Wrote}
+use Rattle.walk.specs.Writing.{Lines, none, more, Stopped, ended, full, Wrote, Calls, uncalled, called, Repeated, until}
 use Rattle.walk.proofs.Stepping.{lines-text, begun-text, text-step, textOfStep}
 use Rattle.walk.proofs.Writing.{line-some}
 
@@ -67,6 +67,26 @@ progress {s} {old} {new} {w} o h z =
     let same = none-same (o .begun .lines) (omega arith) in
     let e = stopped-ended (o .stopped) (omega (arith, o .begun .same)) in
     text-step s ∙ ap textOfStep (ap stepOf (sym same) ∙ e)
+
+-- at any moment, the bytes of the calls so far followed by the text of the state they handed on are the whole text
+pub calls-text : {s m : State} {n : ℕ} {bs : List ℕ} → Calls s n bs m → textOf s ≡ bs ++ textOf m
+calls-text uncalled = refl
+calls-text (called {bs = bs} {new = new} {w = w} c o h) =
+    calls-text c ∙
+    (ap (λ (x : List ℕ). bs ++ x) (text-goes-on o) ∙ sym (append-assoc bs (take (w .len) new) (textOf (w .state))))
+
+-- every run of such calls comes to an end: there are no more of them than the text has bytes
+pub calls-end : {s m : State} {n : ℕ} {bs : List ℕ} → Calls s n bs m → n + length (textOf m) ≤ length (textOf s)
+calls-end uncalled = omega arith
+calls-end (called c o h) = omega (arith, calls-end c, text-shrinks o)
+
+-- repeated calls write the whole text of a state, and of an input, and nothing is left
+pub all-written : {s : State} {bs : List ℕ} → Repeated s bs → bs ≡ textOf s
+all-written {bs = bs} (until c o h z) =
+    sym (calls-text c ∙ (ap (λ (x : List ℕ). bs ++ x) (progress o h z) ∙ append-nil bs))
+
+pub input-written : (input bs : List ℕ) → Repeated (begunFrom (readingOf input)) bs → bs ≡ inputText input
+input-written input bs r = all-written r ∙ whole-text input
 
 -- a number of lines leads to one place
 one-lines : {s m k : State} {n : ℕ} {bs cs : List ℕ} → Lines s n bs m → Lines s n cs k → (bs ≡ cs) × (m ≡ k)
