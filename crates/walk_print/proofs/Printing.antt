@@ -4,9 +4,7 @@ use mathlib.Core.Bool.{Bool, true, false, true≢false, _&&_}
 use mathlib.Core.List.{List, [], _++_}
 use Prim.Native.Nat.{ℕ, suc, _≤_, _<_}
 use native.Mathlib.Omega.{arith}
-use lib.Dec.{ltb}
 use lib.ListN.{length, take}
-use borrow.Author.Tests.{ltb-false}
 use Rattle.walk_question.specs.Cursor.{readingOf}
 use Rattle.walk.specs.declared.State.{State}
 use Rattle.walk.specs.declared.Written.{Written}
@@ -39,11 +37,15 @@ goes-on {buffer = buffer} {w = w} g h o =
     }
 
 -- a last call that wrote nothing is the end: the calls wrote the whole text
-pub ends : {s m : State} {buffer : List ℕ} {w : Written} (good : Bool) → Going s buffer m w → (good && ltb 0 (w .len)) ≡ false → good ≡ true → Repeated s (textOf s)
-ends {s = s} {w = w} true g t e =
-    let r : Repeated s (g .bytes) = until (g .calls) (g .wrote) (omega (arith, g .room, g .wrote .begun .same)) (omega (arith, ltb-false 0 (w .len) t)) in
+pub ends : {s m : State} {buffer : List ℕ} {w : Written} → Going s buffer m w → w .len ≡ 0 → Repeated s (textOf s)
+ends {s = s} g z =
+    let r : Repeated s (g .bytes) = until (g .calls) (g .wrote) (omega (arith, g .room, g .wrote .begun .same)) z in
     subst (λ (x : List ℕ). Repeated s x) (all-written r) r
-ends false g t e = absurd (true≢false (sym e))
+
+-- where both do not hold and the first does, the second does not
+pub second : (a b : Bool) → (a && b) ≡ false → a ≡ true → b ≡ false
+second true b t e = t
+second false b t e = absurd (true≢false (sym e))
 
 -- the whole text of the state in which the walk of an input begins is that input's
 pub whole-input : (input : List ℕ) {s : State} → s ≡ begunFrom (readingOf input) → Repeated s (textOf s) → Repeated (begunFrom (readingOf input)) (inputText input)

@@ -2,12 +2,12 @@
 use Prim.Native.Nat.{_+_, _<_}
 use native.Mathlib.Omega.{arith}
 use borrow.Author.Needs.{needs}
-use borrow.Author.Tests.{ltb-true}
+use borrow.Author.Tests.{ltb-true, ltb-false}
 use lib.ListN.{length, length-take}
 use Rattle.walk.specs.Texts.{textOf}
 use Rattle.walk.proofs.Laws.{text-goes-on, text-shrinks}
 use Rattle.walk_question.proofs.Fields.{both}
-use Rattle.walk_print.proofs.Printing.{Going, starts, goes-on, ends}
+use Rattle.walk_print.proofs.Printing.{Going, starts, goes-on, ends, second}
 use Rattle.walk_print.proofs.print_text.Statement.{statement}
 use Rattle.walk_print.proofs.print_text.Tie as tie
 
@@ -24,19 +24,19 @@ loop-holds : tie.Need-loop-holds Inv-loop μ-loop
 loop-holds c = starts (c .before .before .write-lines .ensures) (omega (arith, c .before .before .before .before .before .large-buffer .ensures))
 
 slice-reshare-prefix-hand-over : tie.Need-slice-reshare-prefix-hand-over Inv-loop μ-loop
-slice-reshare-prefix-hand-over c = c .before .before .loop .inv .wrote .begun .within
+slice-reshare-prefix-hand-over c = omega (arith, c .before .before .loop .inv .wrote .begun .within)
 
 slice-aggregate-hand-over : tie.Need-slice-aggregate-hand-over Inv-loop μ-loop
 slice-aggregate-hand-over c =
-    let l = c .before .before .before .loop in
-    omega (arith, length-take (l .w .len) (l .buffer), l .inv .wrote .begun .within)
+    let h = c .before .before .before .loop .inv .wrote .begun .within in
+    simp length-take (omega arith)
 
 hand-over-requires : tie.Need-hand-over-requires Inv-loop μ-loop
 hand-over-requires c κs = text-goes-on (c .before .before .before .loop .inv .wrote)
 
 -- the test of a turn says that there are bytes
 some : (c : tie.Then1 Inv-loop μ-loop) → 0 < c .before .before .loop .w .len
-some c = let l = c .before .before .loop in ltb-true 0 (l .w .len) (both (l .good) _ (c .if1 .taken) .1)
+some c = let l = c .before .before .loop in omega (arith, ltb-true _ (l .w .len) (both (l .good) _ (c .if1 .taken) .1))
 
 loop-less : tie.Need-loop-less Inv-loop μ-loop
 loop-less c =
@@ -48,7 +48,9 @@ loop-again c =
     goes-on (turn .before .before .loop .inv) (some turn) (c .before .before .write-lines2 .ensures)
 
 returns : tie.Need-returns Inv-loop μ-loop
-returns c = let l = c .before .before .before .loop in ends (l .good) (l .inv) (c .before .if1 .left)
+returns c =
+    let l = c .before .before .before .loop in
+    λ t. ends (l .inv) (omega (arith, ltb-false _ (l .w .len) (second (l .good) _ (c .before .if1 .left) t)))
 
 pub print-text-spec : {M : Type 1} → statement M
 print-text-spec =
