@@ -14,9 +14,8 @@ use Rattle.walk_question.specs.declared.Digits.{Digits}
 use Rattle.walk_question.specs.declared.Field.{Field}
 use Rattle.walk_question.specs.Reading.{letter, Ends, at-end, at-newline}
 use Rattle.walk_question.specs.Cursor.{byteAt, isDigit, numberAt, spacedAt, endsAt, lastAt, kindAt}
-use Rattle.walk_question.proofs.Fields.{both}
-use Rattle.walk_question.proofs.Longest.{either, number-next}
-use Rattle.walk_question.proofs.Numbers.{byte-there, byte-after, drop-after, number-spelt, number-read}
+use Rattle.walk_question.proofs.Fields.{both, either}
+use Rattle.walk_question.proofs.Numbers.{number-next, byte-there, byte-after, drop-after, number-spelt, number-read}
 
 first : (bs : List ℕ) (at b : ℕ) (rest : List ℕ) → drop at bs ≡ b ∷ rest → byteAt bs at ≡ b
 first bs at b rest e = ap (byteAt bs) {x = at} {y = at + 0} (omega arith) ∙ byte-after bs at [] (b ∷ rest) e

@@ -19,6 +19,10 @@ pub both : (a b : Bool) → (a && b) ≡ true → (a ≡ true) × (b ≡ true)
 both true b e = (refl, e)
 both false b e = absurd (true≢false (sym e))
 
+pub either : (a b : Bool) {A : Type 0} → (a || b) ≡ true → (a ≡ true → A) → (b ≡ true → A) → A
+either true b e f g = f refl
+either false b e f g = g e
+
 module _ (bs : List ℕ) (start : ℕ) (d : Digits) (b : ℕ) (is : b ≡ byteAt bs (d .next)) where
   abbrev test : Bool
   test = isDigit b && (eqb (d .next) start || ltb 0 (d .value))

@@ -16,8 +16,21 @@ use Rattle.walk_lines.specs.Lines.{decimal, digit}
 use Rattle.walk_lines.proofs.Decimals.{small, large, longer, some-digit}
 use Rattle.walk_question.specs.declared.Digits.{Digits}
 use Rattle.walk_question.specs.Cursor.{byteAt, isDigit, digits, withDigit, numberAt}
-use Rattle.walk_question.proofs.Fields.{both, digit-range, digit-taken, digit-left}
-use Rattle.walk_question.proofs.Longest.{either}
+use Rattle.walk_question.proofs.Fields.{both, either, digit-range, digit-taken, digit-left}
+
+-- a digit takes one byte, and a number of at most k digits at most k
+digit-next : (bs : List ℕ) (start : ℕ) (d : Digits) → withDigit bs start d .next ≤ d .next + 1
+unfolding withDigit
+digit-next bs start d = go (isDigit (byteAt bs (d .next)) && (eqb (d .next) start || ltb 0 (d .value)))
+  where
+    go : (b : Bool) → pick b (digits (10 * d .value + (byteAt bs (d .next) - 48)) (d .next + 1)) d .next ≤ d .next + 1
+    go true = omega arith
+    go false = omega arith
+
+pub number-next : (k : ℕ) (bs : List ℕ) (start : ℕ) → numberAt k bs start .next ≤ start + k
+unfolding numberAt
+number-next zero bs start = omega arith
+number-next (suc k) bs start = omega (arith, digit-next bs start (numberAt k bs start), number-next k bs start)
 
 -- a byte that is there stands before the bytes after it
 pub byte-there : (bs : List ℕ) (at : ℕ) → byteAt bs at < 256 → drop at bs ≡ byteAt bs at ∷ drop (at + 1) bs
