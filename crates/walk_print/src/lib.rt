@@ -8,7 +8,7 @@ ghost use Rattle.walk.specs.Writing.{Repeated};
 use libc::STDERR_FILENO;
 use libc::STDOUT_FILENO;
 
-// Writes the bytes that lead from one state to the next. No contract can say what a program writes, so this is the only place that does.
+// Writes the bytes that lead from one state to the next. The text is written here and nowhere else, since no contract can say what is written.
 fn hand_over(from: walk::State, next: walk::State, bytes: &[u8]) -> bool
     requires { ⌜ textOf from ≡ now bytes ++ textOf next ⌝ }
 {
