@@ -1,6 +1,6 @@
 -- What writing as many whole lines as fit means: the text goes on where it stopped, it makes progress, and its outcome is one. Assumes nothing.
 use mathlib.Core.Path.{_≡_, refl, sym, ap, subst, _∙_}
-use mathlib.Core.List.{List, [], _++_}
+use mathlib.Core.List.{List, [], _++_, append-assoc, append-nil}
 use Prim.Native.Nat.{ℕ, _+_, _-_, _≤_, _<_}
 use native.Mathlib.Decide.{decLt}
 use native.Mathlib.Nat.{not-suc-le-zero}
@@ -8,15 +8,26 @@ use native.Mathlib.Omega.{arith}
 use lib.ListN.{length, take, drop, length-append, take-append-drop}
 use lib.Seq.{length-take-le}
 use Rattle.walk_lines.specs.declared.Line.{Line}
-use Rattle.walk_lines.specs.Lines.{lineText}
-use Rattle.walk_question.specs.Reading.{readingOf}
+use Rattle.reply.specs.declared.Refusal.the-variants.{BadLine}
+use Rattle.walk_lines.specs.Lines.{lineText, refusedLine}
+use Rattle.walk_question.specs.declared.Question.{Question}
+use Rattle.walk_question.specs.Reading.{Asks}
+use Rattle.walk_question.specs.Cursor.{readingOf}
+use Rattle.walk_question.proofs.Asking.{reads, malformed}
 use Rattle.walk.specs.declared.State.{State}
 use Rattle.walk.specs.declared.Step.{Step}
 use Rattle.walk.specs.declared.Written.{Written}
-use Rattle.walk.specs.Texts.{textOf, stepOf, inputText, begunFrom}
-use Rattle.walk.specs.Writing.{Lines, none, more, Stopped, ended, full, Wrote}
+use Rattle.walk.specs.Texts.{textOf, stepOf, questionText, readingText, inputText, begunFrom}
+use Rattle.walk.specs.Writing.{Lines, none, more, Stopped, ended, full, Wrote, Calls, uncalled, called, Repeated, until}
 use Rattle.walk.proofs.Stepping.{lines-text, begun-text, text-step, textOfStep}
 use Rattle.walk.proofs.Writing.{line-some}
+
+-- a line that asks q has q's text, and a line that asks nothing is refused with 14
+pub asked-text : (input : List ℕ) (q : Question) → Asks q input → inputText input ≡ questionText q
+asked-text input q a = ap readingText (reads input q .1 a)
+
+pub malformed-text : (input : List ℕ) → ((q : Question) → Asks q input → ⊥) → inputText input ≡ refusedLine BadLine
+malformed-text input h = ap readingText (malformed input .1 h)
 
 -- the walk of an input has that input's whole text to print
 pub whole-text : (input : List ℕ) → textOf (begunFrom (readingOf input)) ≡ inputText input
@@ -56,6 +67,26 @@ progress {s} {old} {new} {w} o h z =
     let same = none-same (o .begun .lines) (omega arith) in
     let e = stopped-ended (o .stopped) (omega (arith, o .begun .same)) in
     text-step s ∙ ap textOfStep (ap stepOf (sym same) ∙ e)
+
+-- at any moment, the bytes of the calls so far followed by the text of the state they handed on are the whole text
+pub calls-text : {s m : State} {n : ℕ} {bs : List ℕ} → Calls s n bs m → textOf s ≡ bs ++ textOf m
+calls-text uncalled = refl
+calls-text (called {bs = bs} {new = new} {w = w} c o h) =
+    calls-text c ∙
+    (ap (λ (x : List ℕ). bs ++ x) (text-goes-on o) ∙ sym (append-assoc bs (take (w .len) new) (textOf (w .state))))
+
+-- every run of such calls comes to an end: there are no more of them than the text has bytes
+pub calls-end : {s m : State} {n : ℕ} {bs : List ℕ} → Calls s n bs m → n + length (textOf m) ≤ length (textOf s)
+calls-end uncalled = omega arith
+calls-end (called c o h) = omega (arith, calls-end c, text-shrinks o)
+
+-- repeated calls write the whole text of a state, and of an input, and nothing is left
+pub all-written : {s : State} {bs : List ℕ} → Repeated s bs → bs ≡ textOf s
+all-written {bs = bs} (until c o h z) =
+    sym (calls-text c ∙ (ap (λ (x : List ℕ). bs ++ x) (progress o h z) ∙ append-nil bs))
+
+pub input-written : (input bs : List ℕ) → Repeated (begunFrom (readingOf input)) bs → bs ≡ inputText input
+input-written input bs r = all-written r ∙ whole-text input
 
 -- a number of lines leads to one place
 one-lines : {s m k : State} {n : ℕ} {bs cs : List ℕ} → Lines s n bs m → Lines s n cs k → (bs ≡ cs) × (m ≡ k)

@@ -33,6 +33,15 @@ pub record Wrote (s : State) (old new : List ℕ) (w : Written) : Type 0 where
   pub begun : Begun s old new w
   pub stopped : Stopped (length new - w .len) (w .state)
 
+-- n calls, one after the other, each of which wrote some bytes and handed on its state, lead from s to m; bs are their bytes, in order
+pub data Calls (s : State) : ℕ → List ℕ → State → Type 0 where
+  uncalled : Calls s 0 [] s
+  called : {n : ℕ} {bs old new : List ℕ} {m : State} {w : Written} → Calls s n bs m → Wrote m old new w → 0 < w .len → Calls s (suc n) (bs ++ take (w .len) new) (w .state)
+
+-- calls repeated until one on a buffer of at least 70 bytes writes nothing: bs are all their bytes
+pub data Repeated (s : State) (bs : List ℕ) : Type 0 where
+  until : {n : ℕ} {old new : List ℕ} {m : State} {w : Written} → Calls s n bs m → Wrote m old new w → 70 ≤ length old → w .len ≡ 0 → Repeated s bs
+
 -- a line put at an index: it stands there and the index after it is given, or it does not fit and nothing has changed
 pub data PutLine (x old new : List ℕ) (at r : ℕ) : Type 0 where
   put : r ≡ at + length x → at + length x ≤ length old → new ≡ take at old ++ (x ++ drop (at + length x) old) → PutLine x old new at r

@@ -7,7 +7,7 @@ ghost use lib.ListN.{length};
 ghost use lib.Seq.{paste};
 ghost use Rattle.level.specs.Levels.{badGrid, limitOf};
 ghost use Rattle.faceijk.specs.Places.{sumAt};
-ghost use Rattle.walk_question.specs.Reading.{readingOf};
+ghost use Rattle.walk_question.specs.Cursor.{readingOf};
 ghost use Rattle.walk_lines.specs.Lines.{lineText};
 ghost use Rattle.walk.specs.Texts.{begunAt, begunFrom, walkingStep, stepOf};
 ghost use Rattle.walk.specs.Writing.{Wrote, PutLine, OneMore};

@@ -1,9 +1,10 @@
 -- The lines that `walk` prints, as bytes: the fixed words, numbers in decimal, one space before each number, a newline at the end.
 use mathlib.Core.Path.{_≡_}
 use mathlib.Core.List.{List, [], _∷_, _++_}
-use Prim.Native.Nat.{ℕ, zero, suc, _+_, _/_, _%_}
+use Prim.Native.Nat.{ℕ, zero, suc, _+_, _-_, _/_, _%_, _≤_}
 use lib.Dec.{ltb}
-use lib.ListN.{length, take}
+use lib.ListN.{length, replicate}
+use lib.Seq.{sets}
 use Rattle.reply.specs.Choice.{pick}
 use Rattle.reply.specs.declared.Refusal.{Refusal}
 use Rattle.reply.specs.Replies.{numberOf}
@@ -67,16 +68,13 @@ lineText (Line.Over p) = placeLine overWord p
 lineText (Line.Rest s) = restLine s
 lineText (Line.Refused r) = refusedLine r
 
--- the bytes of a text that is being built
-abbrev pub bytesOf : Text → List ℕ
-bytesOf t = take (t .len) (t .bytes)
-
--- x was put after what the text had
+-- x was put into the text from its end on, where there is room for it
 pub record Put (t : Text) (x : List ℕ) (r : Text) : Type 0 where
+  pub fits : t .len + length x ≤ 70
   pub count : r .len ≡ t .len + length x
-  pub bytes : bytesOf r ≡ bytesOf t ++ x
+  pub bytes : r .bytes ≡ sets (t .bytes) (t .len) x
 
--- the text is x
+-- the text is x; zeros fill the rest of its room
 pub record Spells (x : List ℕ) (r : Text) : Type 0 where
   pub count : r .len ≡ length x
-  pub bytes : bytesOf r ≡ x
+  pub bytes : r .bytes ≡ x ++ replicate (70 - length x) 0

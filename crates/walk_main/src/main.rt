@@ -5,5 +5,7 @@ use libc::STDIN_FILENO;
 fn main() {
     let mut input = [0u8; 64];
     let n = io::read_full(STDIN_FILENO, &mut input);
-    walk_print::print_walk(&input[..n]);
+    if !walk_print::print_walk(&input[..n]) {
+        walk_print::complain();
+    }
 }

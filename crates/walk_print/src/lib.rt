@@ -1,20 +1,47 @@
 // Prints the text of a walk on standard output: for the programs that read a line and for those that run recorded ones.
+ghost use mathlib.Core.Path.{_≡_};
+ghost use mathlib.Core.Bool.{true};
+ghost use mathlib.Core.List.{_++_};
+ghost use Rattle.walk_question.specs.Cursor.{readingOf};
+ghost use Rattle.walk.specs.Texts.{textOf, begunFrom, inputText};
+ghost use Rattle.walk.specs.Writing.{Repeated};
+use libc::STDERR_FILENO;
 use libc::STDOUT_FILENO;
 
-// Prints the text of a state, a buffer at a time.
-fn print_text(state: walk::State) {
-    let mut space = io::large_buffer();
-    let buffer: &mut [u8] = &mut space;
-    let mut w = walk::write_lines(state, buffer);
-    while 0 < w.len {
-        let n = w.len;
-        io::write_all(STDOUT_FILENO, &buffer[..n]);
-        let next = w.state;
-        w = walk::write_lines(next, buffer);
-    }
+// Writes the bytes that lead from one state to the next. The text is written here and nowhere else, since no contract can say what is written.
+fn hand_over(from: walk::State, next: walk::State, bytes: &[u8]) -> bool
+    requires { ⌜ textOf from ≡ now bytes ++ textOf next ⌝ }
+{
+    io::write_all(STDOUT_FILENO, bytes)
 }
 
-// Prints the walk that an input names, or its refusal.
-pub fn print_walk(input: &[u8]) {
-    print_text(walk::begin(input));
+// Prints the text of a state, a buffer at a time, up to the first write that fails. True: nothing is left to print.
+fn print_text(state: walk::State) -> bool
+    ensures { λ r. ⌜ (r ≡ true → Repeated state (textOf state)) ⌝ }
+{
+    let mut space = io::large_buffer();
+    let buffer: &mut [u8] = &mut space;
+    let mut from = state;
+    let mut w = walk::write_lines(from, buffer);
+    let mut good = true;
+    while good & (0 < w.len) {
+        let n = w.len;
+        let next = w.state;
+        good = hand_over(from, next, &buffer[..n]);
+        from = next;
+        w = walk::write_lines(from, buffer);
+    }
+    good
+}
+
+// Prints the walk that an input names, or its refusal. True: all of it.
+pub fn print_walk(input: &[u8]) -> bool
+    ensures { λ r. ⌜ (r ≡ true → Repeated (begunFrom (readingOf (now (input .entry)))) (inputText (now (input .entry)))) ⌝ }
+{
+    print_text(walk::begin(input))
+}
+
+// Says on standard error that a write failed: a program cannot set its exit status.
+pub fn complain() {
+    io::write_all(STDERR_FILENO, b"walk: the output could not be written\n");
 }

@@ -13,11 +13,15 @@ use Rattle.faceijk.specs.declared.Place.{Place}
 use Rattle.walk_question.specs.declared.Digits.{Digits}
 use Rattle.walk_question.specs.declared.Field.{Field}
 use Rattle.walk_question.specs.declared.Reading.{Reading}
-use Rattle.walk_question.specs.Reading.{byteAt, isDigit, digits, withDigit, numberAt, field, spacedAt, endsAt, lastAt, kindAt, questionOf, ofFields, readingOf}
+use Rattle.walk_question.specs.Cursor.{byteAt, isDigit, digits, withDigit, numberAt, field, spacedAt, endsAt, lastAt, kindAt, questionOf, ofFields, readingOf}
 
 pub both : (a b : Bool) → (a && b) ≡ true → (a ≡ true) × (b ≡ true)
 both true b e = (refl, e)
 both false b e = absurd (true≢false (sym e))
+
+pub either : (a b : Bool) {A : Type 0} → (a || b) ≡ true → (a ≡ true → A) → (b ≡ true → A) → A
+either true b e f g = f refl
+either false b e f g = g e
 
 module _ (bs : List ℕ) (start : ℕ) (d : Digits) (b : ℕ) (is : b ≡ byteAt bs (d .next)) where
   abbrev test : Bool

@@ -1,3 +1,6 @@
--- Laws of `walk_question`: the line that asks: how much of it decides.
+-- Laws of `walk_question`: a line is read as what it asks, and how much of it decides.
 pub mod Fields
+pub mod Numbers
+pub mod FieldTexts
+pub mod Asking
 pub mod Longest

@@ -2,7 +2,8 @@
 ghost use mathlib.Core.Path.{_≡_};
 ghost use Prim.Native.Nat.{_+_, _*_, _≤_};
 ghost use Rattle.reply.specs.Choice.{pick};
-ghost use Rattle.walk_question.specs.Reading.{byteAt, endsAt, withDigit, numberAt, spacedAt, lastAt, kindAt, ofFields, readingOf};
+ghost use Rattle.walk_question.specs.Reading.{Read};
+ghost use Rattle.walk_question.specs.Cursor.{byteAt, endsAt, withDigit, numberAt, spacedAt, lastAt, kindAt, ofFields};
 use faceijk::Place;
 use level::GridLevel;
 
@@ -142,7 +143,7 @@ fn of_fields(face: Field, level: Field, kind: Field, i: Field, j: Field, k: Fiel
 
 // The question of a line, or that it is malformed.
 pub fn read_line(s: &[u8]) -> Reading
-    ensures { λ r. ⌜ r ≡ readingOf (now (s .entry)) ⌝ }
+    ensures { λ r. ⌜ Read (now (s .entry)) r ⌝ }
 {
     let face = spaced_at(s, 0, false);
     let level = spaced_at(s, face.next, false);

@@ -1,7 +1,8 @@
 -- `put_line` meets its contract: the line is copied where it fits. Assumes nothing.
 use native.Mathlib.Omega.{arith}
 use borrow.Author.Needs.{needs}
-use Rattle.walk.proofs.Writing.{room, was-put, not-put}
+use Rattle.walk_lines.proofs.Putting.{room}
+use Rattle.walk.proofs.Writing.{was-put, not-put}
 use Rattle.walk.proofs.put_line.Statement.{statement}
 use Rattle.walk.proofs.put_line.Tie as tie
 
