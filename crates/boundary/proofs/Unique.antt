@@ -21,7 +21,7 @@ use Rattle.boundary.specs.Boundaries.{pointsValues, saidBoundary}
 values : {a b : Reply} → a ≡ b → a .values ≡ b .values
 values e = ap (λ (x : Reply). x .values) e
 
-same-verdict : (a b : Verdict) → verdictNumber a ≡ verdictNumber b → a ≡ b
+pub same-verdict : (a b : Verdict) → verdictNumber a ≡ verdictNumber b → a ≡ b
 same-verdict Fine Fine e = refl
 same-verdict Fine (Refused r) e = absurd (omega (arith, number-pos r))
 same-verdict (Refused r) Fine e = absurd (omega (arith, number-pos r))
