@@ -46,3 +46,10 @@ read-back (x ∷ xs) f =
 -- A promise speaks of a slice of doubles by their bits. Two slices that a program holds with the same bits are one.
 pub one-doubles : (xs ys : List Float) → AllHeld xs → AllHeld ys → bitsOf xs ≡ bitsOf ys → xs ≡ ys
 one-doubles xs ys f g e = sym (read-back xs f) ∙ (ap (map (ofBits binary64)) e ∙ read-back ys g)
+
+-- so two outcomes of a call that is lent a slice of doubles are one, double by double
+pub one-gives-doubles : (n : ℕ) (r : Reply) (before a b : List Float) {k l : ℕ} → AllHeld a → AllHeld b
+    → Gives n r (bitsOf before) (bitsOf a) k → Gives n r (bitsOf before) (bitsOf b) l → (k ≡ l) × (a ≡ b)
+one-gives-doubles n r before a b f g p q =
+    let same = one-gives n r (bitsOf before) p q in
+    (same .0, one-doubles a b f g (same .1))
