@@ -1,4 +1,4 @@
--- What answering a line means: what is written lies within the buffer, a line that cannot be read gets 14, and the help has no line. Assumes nothing.
+-- What answering a line means: what is written lies within the buffer, a line that cannot be read gets 14, the help has no line, and two outcomes of one promise coincide. Assumes nothing.
 use mathlib.Core.Path.{_≡_, ap, subst, _∙_}
 use mathlib.Core.Bool.{Bool, true, false}
 use mathlib.Core.List.{List, [], _++_}
@@ -17,6 +17,7 @@ use Rattle.ask_answer.specs.Answers.{replyTo, replyOf}
 use Rattle.ask_words.specs.Kinds.{layoutOf, silent}
 use Rattle.ask_lines.specs.Texts.{answerText, lineText, refusedText}
 use Rattle.ask_lines.specs.Writing.{Wrote, longest}
+use Rattle.ask_lines.proofs.Unique.{one-wrote}
 use Rattle.ask.specs.Asking.{questionText, askText, asksHelp}
 
 -- the text of a reply to the question that a line asks
@@ -51,3 +52,7 @@ unreadable-text frame bs e = ap (questionText frame) e
 pub help-text : (frame : List Float) (bs : List ℕ) → questionOf bs .asked ≡ Help → askText frame bs ≡ []
 unfolding askText answerText
 help-text frame bs e = ap (λ (a : Asked). answerText a (replyTo frame (questionOf bs))) e
+
+-- Two outcomes of answering a line that meet one promise coincide: the length, and the whole buffer.
+pub one-reply : (frame : List Float) (bs : List ℕ) {old a b : List ℕ} {m n : ℕ} → Wrote (askText frame bs) old a m → Wrote (askText frame bs) old b n → (m ≡ n) × (a ≡ b)
+one-reply frame bs = one-wrote

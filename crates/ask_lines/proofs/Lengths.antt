@@ -25,12 +25,17 @@ use Rattle.ask_words.specs.declared.Layout.{Layout}
 use Rattle.ask_words.specs.Words.{noneWord, faceEdgeWord, newFaceWord, yesWord, noWord, cornerWord, crossingWord, overageText, agreedText, markText, nameOf}
 use Rattle.ask_words.specs.Kinds.{kindIn, bordered, silent, layoutOf}
 use Rattle.ask_lines.specs.Texts.{hexDigit, hexTo, valueText, fieldText, textTo, shownOf, valuesText, refusedText, lineText, answerText}
+use Rattle.ask_lines.specs.Writing.{PutAt}
 use borrow.Author.Tests.{ne-eqb}
 
 pub hex-length : (t n : ℕ) → length (hexTo t n) ≡ t
 unfolding hexTo
 hex-length zero n = refl
 hex-length (suc t) n = omega (arith, length-append (hexTo t (n / 16)) (hexDigit (n % 16) ∷ []), hex-length t (n / 16))
+
+-- where the digits end that were put
+pub hex-end : (t n : ℕ) {at r : ℕ} {old new : List ℕ} → PutAt (hexTo t n) old new at r → r ≡ at + t
+hex-end t n p = omega (arith, p .end, hex-length t n)
 
 -- one digit more
 pub hex-more : (t n : ℕ) → hexTo (suc t) n ≡ hexTo t (n / 16) ++ hexDigit (n % 16) ∷ []

@@ -1,2 +1,3 @@
--- Laws of `ask_values`: values taken from an answer.
+-- Laws of `ask_values`: values taken from an answer, and the one answer that says a reply.
 pub mod Taken
+pub mod Saying

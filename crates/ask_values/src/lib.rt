@@ -1,11 +1,11 @@
 // What an entry said, as the values that the desk tool prints: the refusal, or the paper's values in their order.
 ghost use mathlib.Core.Path.{_≡_};
 ghost use mathlib.Core.List.{[], _∷_, _++_};
-ghost use Prim.Native.Nat.{_+_, _≤_};
+ghost use Prim.Native.Nat.{_+_, _-_, _≤_};
 ghost use lib.Ieee.{binary64, toBits};
-ghost use lib.ListN.{take, replicate};
+ghost use lib.ListN.{take, drop, replicate};
 ghost use Rattle.reply.specs.declared.Refusal.the-variants.{BadLine};
-ghost use Rattle.reply.specs.Replies.{answer, refusal};
+ghost use Rattle.reply.specs.Replies.{answer, refusal, zeros};
 ghost use Rattle.coordijk.specs.Coordinates.{coordValues};
 ghost use Rattle.faceijk.specs.Places.{placeValues};
 ghost use Rattle.faceijk.specs.Entries.{saidMoved, saidCrossed, saidSettled, saidDirected, saidSame};
@@ -15,7 +15,7 @@ ghost use Rattle.vec3d.specs.Nearest.{saidNearest};
 ghost use Rattle.locate.specs.Locating.{saidLocated};
 ghost use Rattle.boundary.specs.Corners.{saidCorners};
 ghost use Rattle.boundary.specs.Boundaries.{pointValues, saidBoundary};
-ghost use Rattle.ask_values.specs.Values.{saidAnswer};
+ghost use Rattle.ask_values.specs.Values.{Says};
 use boundary::Boundary;
 use boundary::BoundaryPoint;
 use boundary::Corners;
@@ -33,7 +33,7 @@ use vec2d::Pointed;
 use vec2d::Rounded;
 use vec3d::NearestFace;
 
-// What is to be printed: the refusal, or the paper's values in their order, the first `count` of `values`; doubles by their bits.
+// What is to be printed: the refusal, or the paper's values in their order, the first `count` of `values`, zeros past them; doubles by their bits.
 pub struct Answer {
     pub refusal: Verdict,
     pub count: usize,
@@ -58,10 +58,10 @@ fn room() -> [u64; 49]
 }
 
 impl Answer {
-    // The first `count` of five values.
+    // The first `count` of five values; the others are zero.
     fn of(count: usize, a: u64, b: u64, c: u64, d: u64, e: u64) -> Answer
-        requires { ⌜ count ≤ 5 ⌝ }
-        ensures { λ r. ⌜ saidAnswer r ≡ answer (take count (a ∷ b ∷ c ∷ d ∷ e ∷ [])) ⌝ }
+        requires { ⌜ (count ≤ 5) × (drop count (a ∷ b ∷ c ∷ d ∷ e ∷ []) ≡ zeros (5 - count)) ⌝ }
+        ensures { λ r. ⌜ Says (answer (take count (a ∷ b ∷ c ∷ d ∷ e ∷ []))) r ⌝ }
     {
         let mut values = room();
         values[0] = a;
@@ -77,7 +77,7 @@ impl Answer {
     }
 
     fn of_place(p: Place) -> Answer
-        ensures { λ r. ⌜ saidAnswer r ≡ answer (placeValues p) ⌝ }
+        ensures { λ r. ⌜ Says (answer (placeValues p)) r ⌝ }
     {
         Answer::of(4, p.face as u64, p.i as u64, p.j as u64, p.k as u64, 0)
     }
@@ -85,7 +85,7 @@ impl Answer {
     // A refusal of an entry with n values: its number, and zeros elsewhere.
     fn refused(n: usize, r: Refusal) -> Answer
         requires { ⌜ n ≤ 49 ⌝ }
-        ensures { λ a. ⌜ saidAnswer a ≡ refusal n r ⌝ }
+        ensures { λ a. ⌜ Says (refusal n r) a ⌝ }
     {
         Answer {
             refusal: Verdict::Refused(r),
@@ -97,7 +97,7 @@ impl Answer {
 
 // What each entry said, as an answer.
 pub fn of_rounded(rounded: Rounded) -> Answer
-    ensures { λ r. ⌜ saidAnswer r ≡ saidRounded rounded ⌝ }
+    ensures { λ r. ⌜ Says (saidRounded rounded) r ⌝ }
 {
     match rounded {
         Rounded::Done(c) => Answer::of(3, c.i as u64, c.j as u64, c.k as u64, 0, 0),
@@ -106,7 +106,7 @@ pub fn of_rounded(rounded: Rounded) -> Answer
 }
 
 pub fn of_pointed(pointed: Pointed) -> Answer
-    ensures { λ r. ⌜ saidAnswer r ≡ saidPointed pointed ⌝ }
+    ensures { λ r. ⌜ Says (saidPointed pointed) r ⌝ }
 {
     match pointed {
         Pointed::Done(v) => Answer::of(2, bits(v.x), bits(v.y), 0, 0, 0),
@@ -115,7 +115,7 @@ pub fn of_pointed(pointed: Pointed) -> Answer
 }
 
 pub fn of_moved(moved: Moved) -> Answer
-    ensures { λ r. ⌜ saidAnswer r ≡ saidMoved moved ⌝ }
+    ensures { λ r. ⌜ Says (saidMoved moved) r ⌝ }
 {
     match moved {
         Moved::Done(p) => Answer::of_place(p),
@@ -124,7 +124,7 @@ pub fn of_moved(moved: Moved) -> Answer
 }
 
 pub fn of_crossed(crossed: Crossed) -> Answer
-    ensures { λ r. ⌜ saidAnswer r ≡ saidCrossed crossed ⌝ }
+    ensures { λ r. ⌜ Says (saidCrossed crossed) r ⌝ }
 {
     match crossed {
         Crossed::Done(l) => {
@@ -145,7 +145,7 @@ pub fn of_crossed(crossed: Crossed) -> Answer
 }
 
 pub fn of_settled(settled: Settled) -> Answer
-    ensures { λ r. ⌜ saidAnswer r ≡ saidSettled settled ⌝ }
+    ensures { λ r. ⌜ Says (saidSettled settled) r ⌝ }
 {
     match settled {
         Settled::Done(s) => {
@@ -164,7 +164,7 @@ pub fn of_settled(settled: Settled) -> Answer
 }
 
 pub fn of_directed(directed: Directed) -> Answer
-    ensures { λ r. ⌜ saidAnswer r ≡ saidDirected directed ⌝ }
+    ensures { λ r. ⌜ Says (saidDirected directed) r ⌝ }
 {
     match directed {
         Directed::Done(d) => {
@@ -176,7 +176,7 @@ pub fn of_directed(directed: Directed) -> Answer
 }
 
 pub fn of_same(same: SameCorner) -> Answer
-    ensures { λ r. ⌜ saidAnswer r ≡ saidSame same ⌝ }
+    ensures { λ r. ⌜ Says (saidSame same) r ⌝ }
 {
     match same {
         SameCorner::Yes => Answer::of(1, 1, 0, 0, 0, 0),
@@ -186,7 +186,7 @@ pub fn of_same(same: SameCorner) -> Answer
 }
 
 pub fn of_nearest(nearest: NearestFace) -> Answer
-    ensures { λ r. ⌜ saidAnswer r ≡ saidNearest nearest ⌝ }
+    ensures { λ r. ⌜ Says (saidNearest nearest) r ⌝ }
 {
     match nearest {
         NearestFace::Done(n) => Answer::of(2, n.face as u64, bits(n.distance), 0, 0, 0),
@@ -195,7 +195,7 @@ pub fn of_nearest(nearest: NearestFace) -> Answer
 }
 
 pub fn of_located(located: Located) -> Answer
-    ensures { λ r. ⌜ saidAnswer r ≡ saidLocated located ⌝ }
+    ensures { λ r. ⌜ Says (saidLocated located) r ⌝ }
 {
     match located {
         Located::Done(p) => Answer::of_place(p),
@@ -205,7 +205,7 @@ pub fn of_located(located: Located) -> Answer
 
 fn put_coord(values: [u64; 49], at: usize, c: CoordIJK) -> [u64; 49]
     requires { ⌜ at + 3 ≤ 49 ⌝ }
-    ensures { λ r. ⌜ take (at + 3) r ≡ take at values ++ coordValues c ⌝ }
+    ensures { λ r. ⌜ (take (at + 3) r ≡ take at values ++ coordValues c) × (drop (at + 3) r ≡ drop (at + 3) values) ⌝ }
 {
     let mut after = values;
     after[at] = c.i as u64;
@@ -215,7 +215,7 @@ fn put_coord(values: [u64; 49], at: usize, c: CoordIJK) -> [u64; 49]
 }
 
 pub fn of_corners(found: Corners) -> Answer
-    ensures { λ r. ⌜ saidAnswer r ≡ saidCorners found ⌝ }
+    ensures { λ r. ⌜ Says (saidCorners found) r ⌝ }
 {
     let refusal = found.refusal;
     let corners = found.corners;
@@ -246,7 +246,7 @@ fn put_point(values: [u64; 49], at: usize, p: BoundaryPoint) -> [u64; 49]
 }
 
 pub fn of_boundary(found: Boundary) -> Answer
-    ensures { λ r. ⌜ saidAnswer r ≡ saidBoundary found ⌝ }
+    ensures { λ r. ⌜ Says (saidBoundary found) r ⌝ }
 {
     let refusal = found.refusal;
     let points = found.points;
@@ -266,14 +266,14 @@ pub fn of_boundary(found: Boundary) -> Answer
 
 // An answer with no values.
 pub fn help() -> Answer
-    ensures { λ r. ⌜ saidAnswer r ≡ answer [] ⌝ }
+    ensures { λ r. ⌜ Says (answer []) r ⌝ }
 {
     Answer::of(0, 0, 0, 0, 0, 0)
 }
 
 // A line that cannot be read.
 pub fn unreadable() -> Answer
-    ensures { λ r. ⌜ saidAnswer r ≡ refusal 0 BadLine ⌝ }
+    ensures { λ r. ⌜ Says (refusal 0 BadLine) r ⌝ }
 {
     Answer::refused(0, Refusal::BadLine)
 }

@@ -87,8 +87,9 @@ unsignedField w =
     (exactFrom (spelt 10 none (wholeOf w ++ decimalsOf w)) (length (decimalsOf w)))
     bad
 
+-- minus a double; what is no field stays none
 abbrev pub negated : Field → Field
-negated f = record { number = f .number; double = neg (f .double); good = f .good }
+negated f = pick (f .good) (real (neg (f .double))) bad
 
 -- a minus, 45, may stand before them
 unfoldable pub decimalField : List ℕ → Field

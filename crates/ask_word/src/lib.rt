@@ -4,7 +4,7 @@ ghost use Prim.Native.Nat.{_+_, _*_, _^_, _≤_, _<_};
 ghost use lib.ListN.{length, getD};
 ghost use lib.Dec.{eqb};
 ghost use lib.Ieee.{binary64, ofBits};
-ghost use Rattle.ask_word.specs.Words.{digitOf, withDigit, spelt, plain, bad, numberFrom, numberField, exactFrom, unsignedField, decimalField, bitsOf, doubleField, same, flagField};
+ghost use Rattle.ask_word.specs.Words.{digitOf, withDigit, spelt, plain, bad, numberFrom, numberField, exactFrom, unsignedField, negated, decimalField, bitsOf, doubleField, same, flagField};
 
 // What a word says: a number or a flag, a double, and whether it says anything; zeros elsewhere.
 pub struct Field {
@@ -182,16 +182,24 @@ fn has_minus(s: &[u8]) -> bool
     false
 }
 
+fn negated(f: Field) -> Field
+    ensures { λ r. ⌜ r ≡ negated f ⌝ }
+{
+    if f.good {
+        return Field {
+            number: 0,
+            double: -f.double,
+            good: true,
+        };
+    }
+    not_good()
+}
+
 fn decimal(s: &[u8]) -> Field
     ensures { λ r. ⌜ r ≡ decimalField (now (s .entry)) ⌝ }
 {
     if has_minus(s) {
-        let f = unsigned(&s[1..]);
-        return Field {
-            number: f.number,
-            double: -f.double,
-            good: f.good,
-        };
+        return negated(unsigned(&s[1..]));
     }
     unsigned(s)
 }

@@ -41,9 +41,6 @@ kindIn Layout.Distance k = pick (eqb k 0) Kind.Number Kind.Double
 kindIn Layout.Border k = borderKind k
 kindIn Layout.Nothing k = Kind.Number
 
-abbrev pub kindOf : Asked → ℕ → Kind
-kindOf asked k = kindIn (layoutOf asked) k
-
 -- a border prints as many points as its count says
 abbrev pub bordered : Layout → Bool
 bordered Layout.Numbers = false

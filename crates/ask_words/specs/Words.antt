@@ -1,10 +1,10 @@
 -- The fixed words of the desk tool's answers, as bytes.
 use Rattle.ask_question.specs.Questions.{text}
 use mathlib.Core.Path.{_≡_}
-use mathlib.Core.List.{List, [], _∷_}
+use mathlib.Core.List.{List, [], _∷_, _++_}
 use Prim.Native.Nat.{ℕ, _-_, _≤_}
 use lib.Dec.{eqb}
-use lib.ListN.{take, getD}
+use lib.ListN.{length, take, getD, replicate}
 use Rattle.reply.specs.Choice.{pick}
 use Rattle.ask_words.specs.declared.Word.{Word}
 
@@ -63,10 +63,12 @@ agreedText v = pick (eqb v 1) yesWord noWord
 unfoldable pub markText : ℕ → List ℕ
 markText v = pick (eqb v 1) cornerWord crossingWord
 
--- the bytes of a word; and that they are x, of which a word has room for 11
+-- the bytes of a word
 abbrev pub spelled : Word → List ℕ
 spelled w = take (w .1) (w .0)
 
+-- a word that spells x, of which it has room for 11 bytes: they are x and then blanks, 32
 pub record Spells (x : List ℕ) (w : Word) : Type 0 where
   pub short : w .1 ≤ 11
-  pub bytes : spelled w ≡ x
+  pub count : w .1 ≡ length x
+  pub letters : w .0 ≡ x ++ replicate (11 - w .1) 32

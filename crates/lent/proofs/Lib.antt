@@ -1,4 +1,5 @@
--- Laws of `lent`: the ways in which a C function ends, and what stands in a slice.
+-- Laws of `lent`: the ways in which a C function ends, what stands in a slice, and that two outcomes of one promise coincide.
 pub mod Lent
 pub mod Framed
 pub mod Writing
+pub mod Unique

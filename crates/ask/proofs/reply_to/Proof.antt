@@ -1,6 +1,7 @@
 -- `reply_to` meets its contract: what is written is the text of the reply to the question that the line asks. Assumes nothing.
 use borrow.Author.Needs.{needs}
 use Rattle.ask_values.specs.Values.{saidAnswer}
+use Rattle.ask_values.proofs.Saying.{said}
 use Rattle.ask.proofs.Laws.{written}
 use Rattle.ask.proofs.reply_to.Statement.{statement}
 use Rattle.ask.proofs.reply_to.Tie as tie
@@ -10,7 +11,7 @@ returns c =
     let w = c .before .before .write-answer in
     let a = c .before .before .before .before .answer-to in
     let q = c .before .before .before .before .before .read-question in
-    written _ _ (q .result) (saidAnswer (a .result)) (q .ensures) (a .ensures) (w .ensures)
+    written _ _ (q .result) (saidAnswer (a .result)) (q .ensures) (said (a .ensures)) (w .ensures)
 
 pub reply-to-spec : {M : Type 1} → statement M
 reply-to-spec =

@@ -2,6 +2,7 @@
 use borrow.Author.Needs.{needs}
 use mathlib.Core.Path.{_∙_, ap}
 use Rattle.faceijk.specs.declared.Place.{Place}
+use Rattle.ask_values.proofs.Saying.{as-reply}
 use Rattle.ask_answer.specs.Answers.{numberAt}
 use Rattle.boundary.specs.Corners.{cornersReply}
 use Rattle.ask_answer.proofs.corners_at.Statement.{statement}
@@ -10,7 +11,7 @@ use Rattle.ask_answer.proofs.corners_at.Tie as tie
 returns : tie.Need-returns
 returns c =
     let n = c .before .before .before .args .t1 in
-    c .of-corners .ensures ∙ (c .before .corners-of .ensures ∙ ap (λ (p : Place). cornersReply p (numberAt n 1)) (c .before .before .place-at .ensures))
+    as-reply (c .of-corners .ensures) (c .before .corners-of .ensures ∙ ap (λ (p : Place). cornersReply p (numberAt n 1)) (c .before .before .place-at .ensures))
 
 pub corners-at-spec : {M : Type 1} → statement M
 corners-at-spec =

@@ -2,6 +2,7 @@
 use borrow.Author.Needs.{needs}
 use mathlib.Core.Path.{_∙_, ap}
 use Rattle.faceijk.specs.declared.Place.{Place}
+use Rattle.ask_values.proofs.Saying.{as-reply}
 use Rattle.ask_answer.specs.Answers.{numberAt, flagAt}
 use Rattle.faceijk.specs.Entries.{crossReply}
 use Rattle.ask_answer.proofs.cross_at.Statement.{statement}
@@ -10,7 +11,7 @@ use Rattle.ask_answer.proofs.cross_at.Tie as tie
 returns : tie.Need-returns
 returns c =
     let n = c .before .before .before .args .t1 in
-    c .of-crossed .ensures ∙ (c .before .cross .ensures ∙ ap (λ (p : Place). crossReply p (numberAt n 1) (flagAt n 2) (flagAt n 6)) (c .before .before .place-at .ensures))
+    as-reply (c .of-crossed .ensures) (c .before .cross .ensures ∙ ap (λ (p : Place). crossReply p (numberAt n 1) (flagAt n 2) (flagAt n 6)) (c .before .before .place-at .ensures))
 
 pub cross-at-spec : {M : Type 1} → statement M
 cross-at-spec =

@@ -1,11 +1,11 @@
 -- `direction_at` meets its contract: the direction between the faces of the fields. Assumes nothing.
 use borrow.Author.Needs.{needs}
-use mathlib.Core.Path.{_∙_}
+use Rattle.ask_values.proofs.Saying.{as-reply}
 use Rattle.ask_answer.proofs.direction_at.Statement.{statement}
 use Rattle.ask_answer.proofs.direction_at.Tie as tie
 
 returns : tie.Need-returns
-returns c = c .of-directed .ensures ∙ c .before .face-direction .ensures
+returns c = as-reply (c .of-directed .ensures) (c .before .face-direction .ensures)
 
 pub direction-at-spec : {M : Type 1} → statement M
 direction-at-spec =

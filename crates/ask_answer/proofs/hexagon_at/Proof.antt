@@ -2,6 +2,7 @@
 use borrow.Author.Needs.{needs}
 use mathlib.Core.Path.{_∙_, ap}
 use Rattle.faceijk.specs.declared.Place.{Place}
+use Rattle.ask_values.proofs.Saying.{as-reply}
 use Rattle.ask_answer.specs.Answers.{numberAt}
 use Rattle.boundary.specs.Boundaries.{boundaryReply}
 use Rattle.ask_answer.proofs.hexagon_at.Statement.{statement}
@@ -10,7 +11,7 @@ use Rattle.ask_answer.proofs.hexagon_at.Tie as tie
 returns : tie.Need-returns
 returns c =
     let n = c .before .before .before .args .t1 in
-    c .of-boundary .ensures ∙ (c .before .hexagon-boundary .ensures ∙ ap (λ (p : Place). boundaryReply 6 p (numberAt n 1) (numberAt n 5) (numberAt n 6)) (c .before .before .place-at .ensures))
+    as-reply (c .of-boundary .ensures) (c .before .hexagon-boundary .ensures ∙ ap (λ (p : Place). boundaryReply 6 p (numberAt n 1) (numberAt n 5) (numberAt n 6)) (c .before .before .place-at .ensures))
 
 pub hexagon-at-spec : {M : Type 1} → statement M
 hexagon-at-spec =

@@ -2,6 +2,7 @@
 use borrow.Author.Needs.{needs}
 use mathlib.Core.Path.{_∙_, ap}
 use Rattle.locate.specs.Locating.{locateReply}
+use Rattle.ask_values.proofs.Saying.{as-reply}
 use Rattle.ask_answer.specs.Answers.{numberAt}
 use Rattle.ask_answer.proofs.located_at.Statement.{statement}
 use Rattle.ask_answer.proofs.located_at.Tie as tie
@@ -9,7 +10,7 @@ use Rattle.ask_answer.proofs.located_at.Tie as tie
 returns : tie.Need-returns
 returns c =
     let a = c .before .before .before .before .args in
-    c .of-located .ensures ∙ (c .before .locate .ensures ∙ ap (locateReply (a .frame .now) (numberAt (a .t2) 0)) (c .before .before .vector-at .ensures))
+    as-reply (c .of-located .ensures) (c .before .locate .ensures ∙ ap (locateReply (a .frame .now) (numberAt (a .t2) 0)) (c .before .before .vector-at .ensures))
 
 pub located-at-spec : {M : Type 1} → statement M
 located-at-spec =

@@ -3,6 +3,7 @@ use borrow.Author.Needs.{needs}
 use mathlib.Core.Path.{_≡_, _∙_}
 use Rattle.vec2d.specs.declared.Line.{Line}
 use Rattle.vec2d.specs.Meeting.{meetReply}
+use Rattle.ask_values.proofs.Saying.{as-reply}
 use Rattle.ask_answer.proofs.meet_at.Statement.{statement}
 use Rattle.ask_answer.proofs.meet_at.Tie as tie
 
@@ -11,7 +12,7 @@ both e f = λ n. meetReply (e n) (f n)
 
 returns : tie.Need-returns
 returns c =
-    c .of-pointed .ensures ∙ (c .before .meet .ensures ∙ both (c .before .before .before .line-at .ensures) (c .before .before .line-at2 .ensures))
+    as-reply (c .of-pointed .ensures) (c .before .meet .ensures ∙ both (c .before .before .before .line-at .ensures) (c .before .before .line-at2 .ensures))
 
 pub meet-at-spec : {M : Type 1} → statement M
 meet-at-spec =

@@ -3,6 +3,7 @@ use borrow.Author.Needs.{needs}
 use mathlib.Core.Path.{_≡_, _∙_}
 use Rattle.faceijk.specs.declared.Place.{Place}
 use Rattle.faceijk.specs.Entries.{sameReply}
+use Rattle.ask_values.proofs.Saying.{as-reply}
 use Rattle.ask_answer.proofs.same_at.Statement.{statement}
 use Rattle.ask_answer.proofs.same_at.Tie as tie
 
@@ -11,7 +12,7 @@ both e f = λ n. sameReply (e n) (f n)
 
 returns : tie.Need-returns
 returns c =
-    c .of-same .ensures ∙ (c .before .same-corner .ensures ∙ both (c .before .before .before .place-at .ensures) (c .before .before .place-at2 .ensures))
+    as-reply (c .of-same .ensures) (c .before .same-corner .ensures ∙ both (c .before .before .before .place-at .ensures) (c .before .before .place-at2 .ensures))
 
 pub same-at-spec : {M : Type 1} → statement M
 same-at-spec =

@@ -2,6 +2,7 @@
 use borrow.Author.Needs.{needs}
 use mathlib.Core.Path.{_∙_, ap}
 use Rattle.faceijk.specs.declared.Place.{Place}
+use Rattle.ask_values.proofs.Saying.{as-reply}
 use Rattle.ask_answer.specs.Answers.{numberAt, flagAt}
 use Rattle.faceijk.specs.Entries.{stepReply}
 use Rattle.ask_answer.proofs.step_at.Statement.{statement}
@@ -10,7 +11,7 @@ use Rattle.ask_answer.proofs.step_at.Tie as tie
 returns : tie.Need-returns
 returns c =
     let n = c .before .before .before .args .t1 in
-    c .of-moved .ensures ∙ (c .before .step .ensures ∙ ap (λ (p : Place). stepReply p (numberAt n 1) (flagAt n 2) (numberAt n 6)) (c .before .before .place-at .ensures))
+    as-reply (c .of-moved .ensures) (c .before .step .ensures ∙ ap (λ (p : Place). stepReply p (numberAt n 1) (flagAt n 2) (numberAt n 6)) (c .before .before .place-at .ensures))
 
 pub step-at-spec : {M : Type 1} → statement M
 step-at-spec =

@@ -2,6 +2,7 @@
 use borrow.Author.Needs.{needs}
 use mathlib.Core.Path.{_∙_, ap}
 use Rattle.faceijk.specs.declared.Place.{Place}
+use Rattle.ask_values.proofs.Saying.{as-reply}
 use Rattle.ask_answer.specs.Answers.{flagAt}
 use Rattle.faceijk.specs.Entries.{turnReply}
 use Rattle.ask_answer.proofs.turn_at.Statement.{statement}
@@ -10,7 +11,7 @@ use Rattle.ask_answer.proofs.turn_at.Tie as tie
 returns : tie.Need-returns
 returns c =
     let n = c .before .before .before .args .t1 in
-    c .of-moved .ensures ∙ (c .before .turn .ensures ∙ ap (λ (p : Place). turnReply p (flagAt n 4)) (c .before .before .place-at .ensures))
+    as-reply (c .of-moved .ensures) (c .before .turn .ensures ∙ ap (λ (p : Place). turnReply p (flagAt n 4)) (c .before .before .place-at .ensures))
 
 pub turn-at-spec : {M : Type 1} → statement M
 turn-at-spec =

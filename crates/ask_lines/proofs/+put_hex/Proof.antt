@@ -1,10 +1,10 @@
 -- `put_hex` meets its contract: the digits of its sixteenth first, then the last one. The measure is the count of digits. Assumes nothing.
 use mathlib.Core.Path.{_≡_, _∙_}
-use Prim.Native.Nat.{ℕ, suc, _-_, _/_, _<_}
+use Prim.Native.Nat.{ℕ, suc, _-_, _<_}
 use native.Mathlib.Omega.{arith}
 use Rattle.ask_lines.specs.Texts.{hexTo}
 use Rattle.ask_lines.proofs.Putting.{put-nothing, put-then, put-length}
-use Rattle.ask_lines.proofs.Lengths.{hex-length, hex-more}
+use Rattle.ask_lines.proofs.Lengths.{hex-end, hex-more}
 use borrow.Fn.Kinds.{In}
 use borrow.Fn.PlainCycle.{Measures, is, falls, and}
 use Rattle.ask_lines.proofs.put_hex.Reads as put-hex
@@ -88,7 +88,7 @@ put-hex-put-byte-requires : (t : ℕ) → put-hex-lts.Need-put-byte-requires (
 put-hex-put-byte-requires t c κs =
     let s = c .before .before .before .before .before .before .before .before in
     let p = c .before .before .before .before .put-hex .ensures in
-    omega (arith, s .pre .1, p .end, put-length p, hex-length (s .args .digits - 1) (s .args .n / 16))
+    omega (arith, s .pre .1, hex-end _ _ p, put-length p)
 
 put-hex-same-length : (t : ℕ) → put-hex-lts.Need-same-length (
   put-hex-below t,

@@ -1,6 +1,7 @@
 -- `put_value` meets its contract: by the kind. Assumes nothing.
 use borrow.Author.Needs.{needs}
 use native.Mathlib.Omega.{arith}
+use Rattle.ask_words.proofs.Spelling.{spelled-is}
 use Rattle.ask_lines.specs.Texts.{valueText}
 use Rattle.walk_lines.proofs.Decimals.{short20}
 use Rattle.ask_lines.proofs.put_value.Statement.{statement}
@@ -19,15 +20,15 @@ returns-2 c = rw (c .before .before .before .before .enum-told2 .given .1) (c .b
 
 returns-3 : tie.Need-returns-3
 unfolding valueText
-returns-3 c = rw (c .before .before .before .before .before .enum-told3 .given .1, ← (c .before .before .before .overage-word .ensures .bytes)) (c .before .before .put-short .ensures)
+returns-3 c = rw (c .before .before .before .before .before .enum-told3 .given .1, ← (spelled-is (c .before .before .before .overage-word .ensures))) (c .before .before .put-short .ensures)
 
 returns-4 : tie.Need-returns-4
 unfolding valueText
-returns-4 c = rw (c .before .before .before .before .before .enum-told4 .given .1, ← (c .before .before .before .agreed-word .ensures .bytes)) (c .before .before .put-short2 .ensures)
+returns-4 c = rw (c .before .before .before .before .before .enum-told4 .given .1, ← (spelled-is (c .before .before .before .agreed-word .ensures))) (c .before .before .put-short2 .ensures)
 
 returns-5 : tie.Need-returns-5
 unfolding valueText
-returns-5 c = rw (c .before .before .before .before .before .enum-told5 .given .1, ← (c .before .before .before .mark-word .ensures .bytes)) (c .before .before .put-short3 .ensures)
+returns-5 c = rw (c .before .before .before .before .before .enum-told5 .given .1, ← (spelled-is (c .before .before .before .mark-word .ensures))) (c .before .before .put-short3 .ensures)
 
 pub put-value-spec : {M : Type 1} → statement M
 put-value-spec =

@@ -4,7 +4,7 @@ use mathlib.Core.Path.{_≡_, sym, ap, _∙_}
 use mathlib.Core.List.{List, [], _∷_, _++_, append-nil}
 use Prim.Native.Nat.{ℕ, _+_, _*_, _-_, _≤_}
 use native.Mathlib.Omega.{arith}
-use lib.ListN.{length, take, set}
+use lib.ListN.{length, take, set, drop-of-length-le}
 use lib.Seq.{take-all}
 use lib.Ieee.{nan}
 use Rattle.reply.specs.Replies.{verdictNumber, Reply}
@@ -12,6 +12,7 @@ use Rattle.boundary.specs.declared.BoundaryPoint.{BoundaryPoint}
 use Rattle.boundary.specs.declared.Boundary.{Boundary}
 use Rattle.boundary.specs.Boundaries.{pointsValues, saidBoundary}
 use Rattle.ask_values.proofs.Taken.{first-is, next-point, length-values}
+use Rattle.ask_values.proofs.Saying.{says}
 use Rattle.ask_values.proofs.of_boundary.Statement.{statement}
 use Rattle.ask_values.proofs.of_boundary.Tie as tie
 
@@ -26,7 +27,7 @@ whole f values v end full e =
     (ap (λ (n : ℕ). take (1 + 4 * n) values) (sym end) ∙ (e ∙ ap (λ (ps : List BoundaryPoint). f .count ∷ pointsValues ps) (take-all v (f .points) (omega arith))))
 
 abbrev Inv-loop : tie.InvT-loop
-Inv-loop refusal points values₀ v₀ values v = (v ≤ 12) × (take (1 + 4 * v) values ≡ take 1 values₀ ++ pointsValues (take v points))
+Inv-loop refusal points values₀ v₀ values v = (v ≤ 12) × (length values ≡ 49) × (take (1 + 4 * v) values ≡ take 1 values₀ ++ pointsValues (take v points))
 
 abbrev μ-loop : tie.MeasureT-loop
 μ-loop refusal points values₀ v₀ values v = 12 - v
@@ -39,7 +40,7 @@ array-write-values c = search needs
 
 loop-holds : tie.Need-loop-holds Inv-loop μ-loop
 loop-holds c =
-    (omega arith, sym (append-nil (take 1 (set (c .before .room .result) 0 (c .before .before .before .args .found .count)))))
+    (omega arith, search needs, sym (append-nil (take 1 (set (c .before .room .result) 0 (c .before .before .before .args .found .count)))))
 
 mul-put-point : tie.Need-mul-put-point Inv-loop μ-loop
 mul-put-point c = omega arith
@@ -68,7 +69,7 @@ loop-again c =
     let f = c .before .before .before .before .before .before .before .args .found in
     let head = take 1 (set (c .before .before .before .before .before .room .result) 0 (f .count)) in
     let full : length (f .points) ≡ 12 = search (needs, length-values) in
-    (omega arith, next-point (l .values) (c .put-point .result) head (l .v) (f .points) absent (omega arith) (c .put-point .ensures) (l .inv .1))
+    (omega arith, search needs, next-point (l .values) (c .put-point .result) head (l .v) (f .points) absent (omega arith) (c .put-point .ensures) (l .inv .2))
 
 returns : tie.Need-returns Inv-loop μ-loop
 returns c =
@@ -77,8 +78,9 @@ returns c =
     let r = c .before .before .before .room in
     let full : length (f .points) ≡ 12 = search (needs, length-values) in
     let end : l .v ≡ 12 = omega arith in
-    whole f (l .values) (l .v) end (omega arith)
-    (l .inv .1 ∙ ap (λ (h : List ℕ). h ++ pointsValues (take (l .v) (f .points))) (first-is (r .result) (f .count) (r .ensures)))
+    let full-room : length (l .values) ≤ 49 = omega (arith, l .inv .1) in
+    let said = whole f (l .values) (l .v) end (omega arith) (l .inv .2 ∙ ap (λ (h : List ℕ). h ++ pointsValues (take (l .v) (f .points))) (first-is (r .result) (f .count) (r .ensures))) in
+    says (saidBoundary f) (record { refusal = f .refusal; count = 49; values = l .values }) said (omega (arith, l .inv .1)) (drop-of-length-le (l .values) full-room)
 
 pub of-boundary-spec : {M : Type 1} → statement M
 of-boundary-spec =

@@ -23,7 +23,7 @@ unfolding decimalField
 returns c =
     let w = c .before .before .before .before .before .before .args .s .now in
     rw (← (c .before .before .before .before .has-minus .ensures), c .before .before .before .if1 .taken)
-    (ap negated (c .before .unsigned .ensures ∙ ap unsignedField (part-to-end w 1)))
+    (c .negated .ensures ∙ ap negated (c .before .unsigned .ensures ∙ ap unsignedField (part-to-end w 1)))
 
 returns-2 : tie.Need-returns-2
 unfolding decimalField
@@ -32,5 +32,5 @@ returns-2 c = rw (← (c .before .before .has-minus .ensures), c .before .if1 .l
 pub decimal-spec : {M : Type 1} → statement M
 decimal-spec =
     tie.close
-    (tie.spec (λ c κs. search needs) sub-unsigned part-unsigned-start (λ c. search needs) (λ c κs. search needs) returns (λ c κs.
+    (tie.spec (λ c κs. search needs) sub-unsigned part-unsigned-start (λ c. search needs) (λ c κs. search needs) (λ c κs. search needs) returns (λ c κs.
     search needs) returns-2)
