@@ -1,11 +1,11 @@
 -- Two outcomes of an entry that meet one promise coincide. Assumes nothing.
-use mathlib.Core.Path.{_≡_, refl, sym, ap, _∙_}
+use mathlib.Core.Path.{_≡_, refl, ap}
 use mathlib.Core.List.{List, [], _∷_}
-use Prim.Native.Nat.{ℕ, zero, suc}
+use Prim.Native.Nat.{ℕ}
 use native.Mathlib.Omega.{arith}
 use lib.Dec.{T}
 use lib.Ieee.{binary64, fits}
-use Rattle.reply.specs.Replies.{verdictNumber, Reply}
+use Rattle.reply.specs.Replies.{Reply}
 use Rattle.reply.proofs.Numbers.{same-verdict}
 use Rattle.coordijk.specs.declared.CoordIJK.{CoordIJK}
 use Rattle.coordijk.proofs.Unique.{same-coord}

@@ -1,6 +1,5 @@
 -- One hexagon boundary with a crossing point, as the source gives it, bit for bit.
-use mathlib.Core.List.{List, [], _∷_, _++_}
-use Prim.Native.Nat.{ℕ}
+use mathlib.Core.List.{[], _∷_, _++_}
 use Rattle.reply.specs.Replies.{Reply, answer, zeros}
 
 -- the hexagon of level 1 on face 0 at 0,0,3: seven points, of which the fifth is a crossing point on the edge to face 1, and room for five more

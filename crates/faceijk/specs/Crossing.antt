@@ -1,5 +1,5 @@
 -- Crossing and settling of document 01, on a grid: its unit scale, its limit m, and whether it is a substrate grid.
-use mathlib.Core.Bool.{Bool, true, false, _&&_}
+use mathlib.Core.Bool.{Bool, false, _&&_}
 use Prim.Native.Nat.{ℕ, zero, suc, _+_}
 use lib.Dec.{ltb, eqb}
 use Rattle.reply.specs.Choice.{pick}

@@ -4,7 +4,7 @@ use mathlib.Core.Bool.{Bool}
 use mathlib.Core.List.{List, [], _∷_, map}
 use Prim.Native.Nat.{ℕ}
 use lib.Dec.{T}
-use lib.Ieee.{Float, binary64, fits, toBits, ofBits}
+use lib.Ieee.{Float, binary64, fits, ofBits}
 use lib.Ieee.Bits.{ofBits-toBits}
 use Rattle.reply.specs.Replies.{Reply}
 use Rattle.lent.specs.Lent.{held, Gives, GivesFramed, GivesBoth, bitsOf}

@@ -1,37 +1,27 @@
 -- A place that is given out is refused by no entry with 3 or 10. Assumes nothing.
-use mathlib.Core.Path.{_≡_, refl, sym, ap, subst, _∙_}
-use mathlib.Core.Bool.{Bool, true, false}
-use mathlib.Core.List.{List, [], _∷_}
-use Prim.Native.Nat.{ℕ, _<_, _≤_}
+use mathlib.Core.Path.{_≡_, sym, subst, _∙_}
+use mathlib.Core.Bool.{false}
+use mathlib.Core.List.{List}
+use Prim.Native.Nat.{ℕ}
 use native.Mathlib.Nat.{le-of-suc-le-suc}
 use borrow.Author.Tests.{le-ltb}
 use lib.Ieee.{Float}
 use Rattle.reply.specs.declared.Verdict.the-variants.{Fine}
-use Rattle.reply.specs.declared.Refusal.the-variants.{BadNumber, OffSphere, Behind, TooFar}
-use Rattle.reply.specs.Replies.{first}
+use Rattle.reply.specs.declared.Refusal.the-variants.{BadNumber, OffSphere, Behind}
 use Rattle.reply.proofs.Entries.{answered, passed}
 use Rattle.coordijk.specs.Coordinates.{notReduced}
 use Rattle.coordijk.proofs.Taking.{passes}
-use Rattle.vec2d.specs.Rounding.{tooFar, nearestOf}
 use Rattle.vec2d.proofs.Taken.{rounded-taken}
 use Rattle.vec3d.specs.declared.Vec3d.{Vec3d}
 use Rattle.vec3d.specs.Vectors.{badNumber, offSphere, vectorVerdict}
 use Rattle.face_projection.specs.Projection.{behind}
-use Rattle.faceijk.specs.declared.Place.{Place}
+use Rattle.faceijk.proofs.Unique.{same-place}
 use Rattle.faceijk.specs.Places.{badFace, coordOf, placeValues, Okay}
 use Rattle.locate.specs.declared.Located.{Located}
 use Rattle.locate.specs.declared.Located.the-variants.{Done, Refused}
-use Rattle.locate.specs.Locating.{Passed, Entered, nearAxes, nearPoint, placeOf, frontReasons, rowVerdict, rowReply, saidLocated}
+use Rattle.locate.specs.Locating.{Passed, Entered, nearAxes, nearPoint, placeOf, rowVerdict, rowReply, saidLocated}
 use Rattle.locate.specs.Batch.{Given}
 use Rattle.locate.proofs.Entering.{near-low, front-verdict}
-
-pub same-place : (p q : Place) → placeValues p ≡ placeValues q → p ≡ q
-same-place p q e =
-    let f : p .face ≡ q .face = cc in
-    let i : p .i ≡ q .i = cc in
-    let j : p .j ≡ q .j = cc in
-    let k : p .k ≡ q .k = cc in
-    λ n. record { face = f n; i = i n; j = j n; k = k n }
 
 module _ (s : List Float) (l : ℕ) (p : Vec3d) (ready : Passed s l) where
   -- Where no test refuses, the place has a face below 20, is reduced, and has no coordinate above 2^26.

@@ -7,7 +7,7 @@ use Rattle.locate.specs.declared.Located.{Located}
 use Rattle.locate.specs.declared.Batch.{Batch}
 use Rattle.locate.specs.Locating.{saidLocated}
 use Rattle.locate.specs.Batch.{saidBatch}
-use Rattle.locate.proofs.Giving.{same-place}
+use Rattle.faceijk.proofs.Unique.{same-place}
 
 pub one-located : (a b : Located) → saidLocated a ≡ saidLocated b → a ≡ b
 one-located (Located.Done p) (Located.Done q) e = ap Located.Done (same-place p q (ap (λ (x : Reply). x .values) e))

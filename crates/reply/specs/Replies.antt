@@ -1,6 +1,5 @@
 -- The numbered replies of document 01: the numbers, which refusal is given, and what a reply holds.
-use mathlib.Core.Path.{_≡_}
-use mathlib.Core.Bool.{Bool, true, false}
+use mathlib.Core.Bool.{Bool}
 use mathlib.Core.List.{List, [], _∷_}
 use Prim.Native.Nat.{ℕ, zero, suc}
 use Rattle.reply.specs.Choice.{pick}

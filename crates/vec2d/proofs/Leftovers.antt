@@ -58,9 +58,9 @@ unfolding neg ofBits
 minus-one = refl
 
 -- `mul_add(2.0, r1, -1.)` of the branches has the same bits rounded once or twice: 2·r1 is exact.
-pub same-bits : (v : Vec2d) → roundVerdict v ≡ Fine →
+pub once-or-twice : (v : Vec2d) → roundVerdict v ≡ Fine →
     let r1 = quantizedOf v .r1 in
     mulAddOnce two r1 (neg one) ≡ sub binary64 (mul binary64 two r1) one
 unfolding quantizedOf mulAdd sub
-same-bits v e =
+once-or-twice v e =
     unit-once (quantizedOf v .r1) (neg one) _ _ (fitting (x1Of v)) (exact v e .left1) (mod-lt (num (x1Of v)) (den-pos (x1Of v))) minus-one

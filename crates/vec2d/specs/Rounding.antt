@@ -54,7 +54,7 @@ x1Of v = add binary64 (sizeOf (v .x)) (div binary64 (x2Of v) two)
 unfoldable pub quantizedOf : Vec2d → Quantized
 quantizedOf v = record { m1 = wholeOf (x1Of v); m2 = wholeOf (x2Of v); r1 = leftOf (x1Of v); r2 = leftOf (x2Of v) }
 
--- The branches in the source's order, by the leftovers: whether i is m1 + 1, and whether j is m2 + 1. `mul_add(2.0, r1, -1.)` is 2·r1 - 1, which has the same bits rounded once or twice (`same-bits` of proofs/Leftovers).
+-- The branches in the source's order, by the leftovers: whether i is m1 + 1, and whether j is m2 + 1. `mul_add(2.0, r1, -1.)` is 2·r1 - 1, which has the same bits rounded once or twice (`once-or-twice` of proofs/Leftovers).
 unfoldable pub stepsOf : Float → Float → Steps
 stepsOf r1 r2 =
     let rest = sub binary64 one r1 in

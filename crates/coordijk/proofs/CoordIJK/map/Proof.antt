@@ -1,6 +1,6 @@
 -- `CoordIJK::map` meets its contract: the verdict decides, and a triple that passes is taken. Assumes nothing.
 use borrow.Author.Needs.{needs}
-use mathlib.Core.Path.{_≡_, _∙_, sym, ap}
+use mathlib.Core.Path.{_∙_, sym, ap}
 use Rattle.reply.specs.Replies.{answer}
 use Rattle.reply.proofs.Entries.{answers, refuses}
 use Rattle.reply.proofs.Numbers.{same-verdict}

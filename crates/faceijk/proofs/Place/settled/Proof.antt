@@ -1,7 +1,6 @@
 -- `Place::settled` meets its contract. The loop's invariant: the steps made so far are those of the settling, and what is left of it is the whole; Q falls. Assumes nothing.
 use borrow.Author.Needs.{needs}
 use mathlib.Core.Path.{_≡_, refl}
-use Prim.Native.Nat.{_<_, _≤_}
 use native.Mathlib.Omega.{arith}
 use Rattle.faceijk.specs.Places.{sumAt, QAt}
 use Rattle.faceijk.proofs.Settling.{Going, going, going-few, going-less, going-on, going-end}
