@@ -12,12 +12,11 @@ use Rattle.reply.specs.declared.Refusal.the-variants.{BadLine}
 use Rattle.walk_lines.specs.Lines.{lineText, refusedLine}
 use Rattle.walk_question.specs.declared.Question.{Question}
 use Rattle.walk_question.specs.Reading.{Asks}
-use Rattle.walk_question.specs.Cursor.{readingOf}
-use Rattle.walk_question.proofs.Asking.{reads, malformed}
+use Rattle.walk_question.proofs.Asking.{reads, malformed, as-read, one-reading}
 use Rattle.walk.specs.declared.State.{State}
 use Rattle.walk.specs.declared.Step.{Step}
 use Rattle.walk.specs.declared.Written.{Written}
-use Rattle.walk.specs.Texts.{textOf, stepOf, questionText, readingText, inputText, begunFrom}
+use Rattle.walk.specs.Texts.{textOf, stepOf, questionText, readingText, inputText, begunFrom, Begins}
 use Rattle.walk.specs.Writing.{Lines, none, more, Stopped, ended, full, Wrote, Calls, uncalled, called, Repeated, until}
 use Rattle.walk.proofs.Stepping.{lines-text, begun-text, text-step, textOfStep}
 use Rattle.walk.proofs.Writing.{line-some}
@@ -29,9 +28,14 @@ asked-text input q a = ap readingText (reads input q .1 a)
 pub malformed-text : (input : List ℕ) → ((q : Question) → Asks q input → ⊥) → inputText input ≡ refusedLine BadLine
 malformed-text input h = ap readingText (malformed input .1 h)
 
+-- two states in which the walk of one input begins are one
+pub one-beginning : {input : List ℕ} {s t : State} → Begins input s → Begins input t → s ≡ t
+one-beginning {input} a b = a .state ∙ (ap begunFrom (one-reading input (a .reading) (b .reading) (a .read) (b .read)) ∙ sym (b .state))
+
 -- the walk of an input has that input's whole text to print
-pub whole-text : (input : List ℕ) → textOf (begunFrom (readingOf input)) ≡ inputText input
-whole-text input = begun-text (readingOf input)
+pub whole-text : {input : List ℕ} {s : State} → Begins input s → textOf s ≡ inputText input
+whole-text {input} b =
+    ap textOf (b .state) ∙ (begun-text (b .reading) ∙ ap readingText (as-read input (b .reading) (b .read)))
 
 module _ {s : State} {old new : List ℕ} {w : Written} (o : Wrote s old new w) where
   -- the text of the state is the bytes written followed by the text of the next state
@@ -85,8 +89,8 @@ pub all-written : {s : State} {bs : List ℕ} → Repeated s bs → bs ≡ textO
 all-written {bs = bs} (until c o h z) =
     sym (calls-text c ∙ (ap (λ (x : List ℕ). bs ++ x) (progress o h z) ∙ append-nil bs))
 
-pub input-written : (input bs : List ℕ) → Repeated (begunFrom (readingOf input)) bs → bs ≡ inputText input
-input-written input bs r = all-written r ∙ whole-text input
+pub input-written : {input bs : List ℕ} {s : State} → Begins input s → Repeated s bs → bs ≡ inputText input
+input-written b r = all-written r ∙ whole-text b
 
 -- a number of lines leads to one place
 one-lines : {s m k : State} {n : ℕ} {bs cs : List ℕ} → Lines s n bs m → Lines s n cs k → (bs ≡ cs) × (m ≡ k)

@@ -1,4 +1,5 @@
 -- What `walk` prints: `from`, an `over` line for each step over an edge, `rest` with the number of steps; or a refusal and nothing else.
+use mathlib.Core.Path.{_≡_}
 use mathlib.Core.Bool.{Bool, false}
 use mathlib.Core.List.{List, [], _∷_, _++_}
 use Prim.Native.Nat.{ℕ, zero, suc}
@@ -19,6 +20,7 @@ use Rattle.walk_lines.specs.declared.Line.{Line}
 use Rattle.walk_lines.specs.Lines.{placeLine, fromWord, overWord, restLine, refusedLine}
 use Rattle.walk_question.specs.declared.Question.{Question}
 use Rattle.walk_question.specs.declared.Reading.{Reading}
+use Rattle.walk_question.specs.Reading.{Read}
 use Rattle.walk_question.specs.Cursor.{readingOf}
 use Rattle.walk.specs.declared.Walk.{Walk}
 use Rattle.walk.specs.declared.State.{State}
@@ -96,6 +98,12 @@ begunAt q = begunWith (onGridVerdict (q .place) (q .level .0)) (beginning q)
 abbrev pub begunFrom : Reading → State
 begunFrom (Reading.Line q) = begunAt q
 begunFrom Reading.BadLine = State.Refusing BadLine
+
+-- the walk of an input begins in this state: the input is read so, as the question whose text it is or as malformed, and the state is that of the reading
+pub record Begins (input : List ℕ) (s : State) : Type 0 where
+  pub reading : Reading
+  pub read : Read input reading
+  pub state : s ≡ begunFrom reading
 
 -- the next line of a state, and the state after it
 abbrev pub movedTo : Walk → Place → Walk

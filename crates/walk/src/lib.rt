@@ -7,9 +7,8 @@ ghost use lib.ListN.{length};
 ghost use lib.Seq.{paste};
 ghost use Rattle.level.specs.Levels.{badGrid, limitOf};
 ghost use Rattle.faceijk.specs.Places.{sumAt};
-ghost use Rattle.walk_question.specs.Cursor.{readingOf};
 ghost use Rattle.walk_lines.specs.Lines.{lineText};
-ghost use Rattle.walk.specs.Texts.{begunAt, begunFrom, walkingStep, stepOf};
+ghost use Rattle.walk.specs.Texts.{begunAt, Begins, walkingStep, stepOf};
 ghost use Rattle.walk.specs.Writing.{Wrote, PutLine, OneMore};
 use faceijk::Crossed;
 use faceijk::Place;
@@ -69,7 +68,7 @@ fn begin_at(q: Question) -> State
 
 // The state in which the walk of an input begins. Input of any length and any bytes is taken.
 pub fn begin(input: &[u8]) -> State
-    ensures { λ r. ⌜ r ≡ begunFrom (readingOf (now (input .entry))) ⌝ }
+    ensures { λ r. ⌜ Begins (now (input .entry)) r ⌝ }
 {
     let reading = walk_question::read_line(input);
     match reading {
