@@ -1,6 +1,5 @@
 -- Two outcomes of an entry that meet one promise coincide. Assumes nothing.
 use mathlib.Core.Path.{_≡_, sym, ap}
-use Prim.Native.Nat.{ℕ}
 use Rattle.reply.specs.Replies.{Reply}
 use Rattle.reply.proofs.Entries.{answer-or-refusal, same-refusal}
 use Rattle.locate.specs.declared.Located.{Located}
