@@ -10,7 +10,8 @@ use Rattle.coordijk.specs.declared.GridMap.the-variants.{Aperture3Ccw, Aperture
 use Rattle.coordijk.specs.Coordinates.{coord, least, reduced, Taken}
 use Rattle.coordijk.specs.Maps.{mapOf}
 use Rattle.coordijk.proofs.Reducing.{reduced-shift, reduced-same, reduced-idle, reduced-low}
-use Rattle.boundary.specs.Corners.{throughApertures, offsetOf, Upto}
+use Rattle.boundary.specs.Corners.{throughApertures, offsetOf}
+use Rattle.boundary.specs.AsWalked.{Upto}
 
 -- Aperture 3 CCW, then CW, makes a triple three times as large.
 pub three-times : (c : CoordIJK) → mapOf Aperture3Cw (mapOf Aperture3Ccw c) ≡ reduced (3 * c .i) (3 * c .j) (3 * c .k)

@@ -12,7 +12,7 @@ use Rattle.coordijk.specs.Coordinates.{notReduced, Taken}
 use Rattle.coordijk.proofs.Taking.{passed as taken-passed}
 use Rattle.faceijk.specs.declared.Place.{Place}
 use Rattle.faceijk.specs.Places.{coordOf, badFace}
-use Rattle.boundary.specs.Corners.{cellVerdict}
+use Rattle.boundary.specs.AsWalked.{cellVerdict}
 
 pub record Asked (p : Place) (l : ℕ) (bad : Bool) : Type 0 where
   pub on : p .face < 20

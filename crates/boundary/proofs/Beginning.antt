@@ -17,7 +17,8 @@ use Rattle.reply.proofs.Entries.{neither}
 use Rattle.faceijk.specs.declared.Place.{Place}
 use Rattle.boundary.specs.declared.Shape.{Shape}
 use Rattle.boundary.specs.declared.BoundaryPoint.{BoundaryPoint}
-use Rattle.boundary.specs.Corners.{cellReasons, cellVerdict}
+use Rattle.boundary.specs.Corners.{cellReasons}
+use Rattle.boundary.specs.AsWalked.{cellVerdict}
 use Rattle.boundary.specs.Boundaries.{pointsIn, pointsTo, orElse, verdictTo, turnsFor, badRange, outOfFace, boundaryReasons, askedShape, boundaryVerdict, boundaryPoints}
 use Rattle.boundary.proofs.Asked.{asked}
 use Rattle.boundary.proofs.Smallest.{both-fine}

@@ -16,9 +16,9 @@ use Rattle.coordijk.specs.Coordinates.{Taken}
 use Rattle.faceijk.specs.declared.Place.{Place}
 use Rattle.faceijk.specs.Places.{coordOf}
 use Rattle.boundary.specs.declared.Cell.{Cell}
-use Rattle.boundary.specs.Corners.{classIII, sixCorners, cornersAt, coordsValues, Upto}
+use Rattle.boundary.specs.Corners.{classIII, sixCorners, cornersAt, coordsValues}
 use Rattle.boundary.specs.Landing.{cellOf, shapeOf}
-use Rattle.boundary.specs.Boundaries.{Solid}
+use Rattle.boundary.specs.AsWalked.{Upto, Solid}
 use Rattle.boundary.proofs.Apertures.{upto-centre}
 
 pub level-taken : (l : ℕ) → l ≤ 15 → badGrid (raisedOf l) ≡ false

@@ -20,10 +20,11 @@ use Rattle.boundary.specs.declared.Shape.{Shape}
 use Rattle.boundary.specs.declared.BoundaryPoint.{BoundaryPoint}
 use Rattle.boundary.specs.declared.Before.{Before}
 use Rattle.boundary.specs.declared.Before.the-variants.{Nothing, Point, Refused}
-use Rattle.boundary.specs.Corners.{classIII, throughApertures, cellReasons, cellVerdict}
+use Rattle.boundary.specs.Corners.{classIII, throughApertures, cellReasons}
 use Rattle.boundary.specs.Landing.{cellOf, substrateOf, cornerPlace, vertexOf, landAt, Reached}
 use Rattle.boundary.specs.CrossingPoints.{aCrossing, cornerPoint, beforeAt}
-use Rattle.boundary.specs.Boundaries.{pointsBefore, cornersIn, pointsIn, pointsTo, badRange, outOfFace, boundaryReasons, askedShape, Fit}
+use Rattle.boundary.specs.Boundaries.{pointsBefore, cornersIn, pointsIn, pointsTo, badRange, outOfFace, boundaryReasons, askedShape}
+use Rattle.boundary.specs.AsWalked.{cellVerdict, Fit}
 use Rattle.boundary.proofs.Asked.{asked}
 use Rattle.boundary.proofs.Cells.{solid, substrate-limit}
 use Rattle.boundary.proofs.Landing.{vertex-low, corner-okay, land-reached}

@@ -25,7 +25,8 @@ use Rattle.boundary.specs.declared.Before.the-variants.{Nothing}
 use Rattle.boundary.specs.Corners.{offsetOf, cornerOf}
 use Rattle.boundary.specs.Landing.{substrateOf, cornerPlace, vertexOf, landAt}
 use Rattle.boundary.specs.CrossingPoints.{hexagonCrossing, pentagonCrossing, crossingBetween, beforeAt}
-use Rattle.boundary.specs.Boundaries.{turnsFor, pointsTo, verdictTo, boundaryOf, Deep}
+use Rattle.boundary.specs.Boundaries.{turnsFor, pointsTo, verdictTo}
+use Rattle.boundary.specs.AsWalked.{boundaryOf, Deep}
 use Rattle.boundary.proofs.Cells.{substrate-limit}
 use Rattle.boundary.proofs.Landing.{vertex-low}
 use Rattle.boundary.proofs.Staying.{stays-put}

@@ -20,9 +20,9 @@ use Rattle.faceijk.specs.Walking.{Walk, rest, over}
 use Rattle.faceijk.proofs.Taking.{sound-at}
 use Rattle.faceijk.proofs.Settling.{walks, okay-out}
 use Rattle.boundary.specs.declared.Shape.{Shape}
-use Rattle.boundary.specs.Corners.{offsetOf, cornerOf, Upto}
+use Rattle.boundary.specs.Corners.{offsetOf, cornerOf}
 use Rattle.boundary.specs.Landing.{substrateOf, cornerPlace, crossedOnce, settledAt, landFrom, vertexOf, landAt, Reached, here}
-use Rattle.boundary.specs.Boundaries.{Solid, Fit}
+use Rattle.boundary.specs.AsWalked.{Upto, Solid, Fit}
 use Rattle.boundary.proofs.Apertures.{offset-small}
 
 -- the corner of the turn before k, and the centre where there is none: what the code's walk starts with

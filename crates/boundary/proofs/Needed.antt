@@ -11,7 +11,8 @@ use Rattle.boundary.specs.declared.Shape.{Shape}
 use Rattle.boundary.specs.declared.Before.{Before}
 use Rattle.boundary.specs.declared.Before.the-variants.{Nothing}
 use Rattle.boundary.specs.Landing.{vertexOf}
-use Rattle.boundary.specs.CrossingPoints.{hexagonCrossing, pentagonCrossing, crossingBetween, beforeFrom}
+use Rattle.boundary.specs.CrossingPoints.{hexagonCrossing, pentagonCrossing, crossingBetween}
+use Rattle.boundary.specs.AsWalked.{beforeFrom}
 
 neither : (a b : Bool) (x : Before) → (a || not b) ≡ true → Nothing ≡ pick a Nothing (pick b x Nothing)
 neither true b x e = refl

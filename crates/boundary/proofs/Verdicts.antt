@@ -19,9 +19,10 @@ use Rattle.coordijk.specs.Coordinates.{sumOf}
 use Rattle.faceijk.specs.declared.Place.{Place}
 use Rattle.faceijk.specs.Places.{coordOf}
 use Rattle.boundary.specs.declared.BoundaryPoint.{BoundaryPoint}
-use Rattle.boundary.specs.Corners.{classIII, throughApertures, cellReasons, cellVerdict}
+use Rattle.boundary.specs.Corners.{classIII, throughApertures, cellReasons}
 use Rattle.boundary.specs.Landing.{cellOf}
-use Rattle.boundary.specs.Boundaries.{pointsTo, orElse, verdictTo, turnsFor, badRange, outOfFace, boundaryReasons, askedShape, boundaryVerdict, boundaryPoints, saidBoundary, boundaryValues, boundaryReply, boundaryOf, outlineOf, outsideVerdict, withinOf}
+use Rattle.boundary.specs.Boundaries.{pointsTo, orElse, verdictTo, turnsFor, badRange, outOfFace, boundaryReasons, askedShape, boundaryVerdict, boundaryPoints, saidBoundary, boundaryValues, boundaryReply}
+use Rattle.boundary.specs.AsWalked.{cellVerdict, boundaryOf, outlineOf, outsideVerdict, withinOf}
 use Rattle.boundary.proofs.Cells.{substrate-limit}
 
 -- reasons one after the other: the first of the one list, or else of the other

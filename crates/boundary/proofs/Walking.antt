@@ -15,8 +15,9 @@ use Rattle.boundary.specs.declared.BoundaryPoint.{BoundaryPoint}
 use Rattle.boundary.specs.declared.Before.{Before}
 use Rattle.boundary.specs.declared.Before.the-variants.{Nothing, Point, Refused}
 use Rattle.boundary.specs.Landing.{landAt}
-use Rattle.boundary.specs.CrossingPoints.{cornerPoint, beforeFrom, beforeAt}
-use Rattle.boundary.specs.Boundaries.{pointsBefore, pointsTo, orElse, verdictBefore, verdictTo, padded, boundaryOf}
+use Rattle.boundary.specs.CrossingPoints.{cornerPoint, beforeAt}
+use Rattle.boundary.specs.Boundaries.{pointsBefore, pointsTo, orElse, verdictBefore, verdictTo, padded}
+use Rattle.boundary.specs.AsWalked.{beforeFrom, boundaryOf}
 use Rattle.boundary.proofs.Landing.{lastAt}
 use Rattle.boundary.proofs.Padding.{put}
 use Rattle.boundary.proofs.Counting.{crossings-few, midPoints, next-in, next-past, count-is, mid-count}

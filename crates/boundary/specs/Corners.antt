@@ -37,10 +37,6 @@ vertsIII = coord 5 4 0 ∷ coord 1 5 0 ∷ coord 0 5 4 ∷ coord 0 1 5 ∷ coord
 abbrev pub offsetOf : Bool → ℕ → CoordIJK
 offsetOf odd v = getD (pick odd vertsIII vertsII) v (coord 0 0 0)
 
--- the hexadecimal digit v of a word, as the code holds a column of those tables
-abbrev pub digitOf : ℕ → ℕ → ℕ
-digitOf w v = (w / 2 ^ (4 * v)) % 16
-
 abbrev pub shiftedBy : CoordIJK → CoordIJK → CoordIJK
 shiftedBy c o = reduced (c .i + o .i) (c .j + o .j) (c .k + o .k)
 
@@ -76,17 +72,5 @@ cornersReply p l = reply 19 (cornersVerdict p l) (raisedOf l ∷ coordsValues (c
 abbrev pub rangeReasons : CoordIJK → Bool → List Reason
 rangeReasons c bad = when bad BadRange ∷ when (notReduced c) NotReduced ∷ []
 
-abbrev pub rangeVerdict : CoordIJK → Bool → Verdict
-rangeVerdict c bad = first (rangeReasons c bad)
-
 abbrev pub cellReasons : Place → ℕ → Bool → List Reason
 cellReasons p l bad = when (badFace (p .face)) BadFace ∷ when (badCell l) BadLevel ∷ rangeReasons (coordOf p) bad
-
-abbrev pub cellVerdict : Place → ℕ → Bool → Verdict
-cellVerdict p l bad = first (cellReasons p l bad)
-
--- what the code's sums ask of a triple: no coordinate above n
-pub record Upto (n : ℕ) (c : CoordIJK) : Type 0 where
-  pub i-upto : c .i ≤ n
-  pub j-upto : c .j ≤ n
-  pub k-upto : c .k ≤ n

@@ -116,7 +116,3 @@ crossingBetween s last now v =
 unfoldable pub beforeAt : Shape → ℕ → Before
 beforeAt s zero = Nothing
 beforeAt s (suc k) = crossingBetween s (landAt s k) (landAt s (suc k)) (vertexOf s (suc k))
-
--- the same from the two corners, as the code has them
-unfoldable pub beforeFrom : Shape → ℕ → Landed → Landed → Before
-beforeFrom s k last now = pick (eqb k 0) Nothing (crossingBetween s last now (vertexOf s k))

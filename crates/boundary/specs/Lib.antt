@@ -3,4 +3,5 @@ pub mod Corners
 pub mod Landing
 pub mod CrossingPoints
 pub mod Boundaries
+pub mod AsWalked
 pub mod Checked

@@ -8,7 +8,7 @@ use Rattle.reply.proofs.Tests.{tests}
 use Rattle.reply.proofs.Numbers.{same-verdict}
 use Rattle.level.specs.Levels.{badCell}
 use Rattle.coordijk.specs.declared.CoordIJK.{CoordIJK}
-use Rattle.boundary.specs.Corners.{rangeVerdict}
+use Rattle.boundary.specs.AsWalked.{rangeVerdict}
 use borrow.Author.Needs.{needs}
 use Rattle.boundary.proofs.cell_verdict.Statement.{statement}
 use Rattle.boundary.proofs.cell_verdict.Tie as tie

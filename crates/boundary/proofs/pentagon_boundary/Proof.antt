@@ -3,7 +3,8 @@ use mathlib.Core.Path.{refl, sym, ap, _∙_}
 use native.Mathlib.Omega.{arith}
 use Rattle.boundary.specs.declared.Cell.{Cell}
 use Rattle.boundary.specs.Landing.{shapeOf}
-use Rattle.boundary.specs.Boundaries.{badRange, withinOf, saidBoundary}
+use Rattle.boundary.specs.Boundaries.{badRange, saidBoundary}
+use Rattle.boundary.specs.AsWalked.{withinOf}
 use Rattle.boundary.proofs.Asked.{Asked, asked}
 use Rattle.boundary.proofs.Cells.{solid}
 use Rattle.boundary.proofs.Verdicts.{within-is, refused-is, ranged, outline-said}

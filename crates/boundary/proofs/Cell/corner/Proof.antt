@@ -4,7 +4,8 @@ use native.Mathlib.Omega.{arith}
 use Rattle.coordijk.specs.declared.CoordIJK.{CoordIJK}
 use Rattle.coordijk.specs.Coordinates.{reduced}
 use Rattle.faceijk.specs.Places.{coordOf}
-use Rattle.boundary.specs.Corners.{shiftedBy, cornerOf, Upto}
+use Rattle.boundary.specs.Corners.{shiftedBy, cornerOf}
+use Rattle.boundary.specs.AsWalked.{Upto}
 use Rattle.boundary.proofs.Apertures.{offset-small-of}
 use borrow.Author.Needs.{needs}
 use Rattle.boundary.proofs.Cell.corner.Statement.{statement}

@@ -6,7 +6,8 @@ use lib.Dec.{T, eqb, eqb→eq}
 use Rattle.level.proofs.Computed.{left, right, all, at}
 use Rattle.coordijk.specs.declared.CoordIJK.{CoordIJK}
 use Rattle.coordijk.specs.Coordinates.{coord}
-use Rattle.boundary.specs.Corners.{digitOf, offsetOf}
+use Rattle.boundary.specs.Corners.{offsetOf}
+use Rattle.boundary.specs.AsWalked.{digitOf}
 use borrow.Author.Needs.{needs}
 use Rattle.boundary.proofs.Cell.offset.Statement.{statement}
 use Rattle.boundary.proofs.Cell.offset.Tie as tie

@@ -11,7 +11,8 @@ use Rattle.boundary.specs.declared.Shape.{Shape}
 use Rattle.boundary.specs.declared.BoundaryPoint.{BoundaryPoint}
 use Rattle.boundary.specs.Landing.{cornerPlace, vertexOf, landAt}
 use Rattle.boundary.specs.CrossingPoints.{cornerPoint}
-use Rattle.boundary.specs.Boundaries.{padded, Deep}
+use Rattle.boundary.specs.Boundaries.{padded}
+use Rattle.boundary.specs.AsWalked.{Deep}
 use Rattle.boundary.proofs.Landing.{lastAt}
 use Rattle.boundary.proofs.Walking.{Walking, begun, with-none, with-corner}
 use Rattle.boundary.proofs.Inside.{stays-at, none-before, full}

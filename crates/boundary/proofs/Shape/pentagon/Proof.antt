@@ -3,7 +3,7 @@ use native.Mathlib.Omega.{arith}
 use Prim.Native.Nat.{_*_, _≤_, _<_}
 use borrow.Author.Tests.{lt-ltb, le-ltb}
 use Rattle.faceijk.specs.Places.{sumAt}
-use Rattle.boundary.specs.Boundaries.{withinOf}
+use Rattle.boundary.specs.AsWalked.{withinOf}
 use Rattle.boundary.proofs.Verdicts.{turns-few}
 use borrow.Author.Needs.{needs}
 use Rattle.boundary.proofs.Shape.pentagon.Statement.{statement}
