@@ -12,7 +12,6 @@ use Rattle.reply.specs.Replies.{when, first}
 use Rattle.reply.proofs.Entries.{passed}
 use Rattle.level.specs.Levels.{raisedOf, limitOf}
 use Rattle.coordijk.specs.Coordinates.{sumOf}
-use Rattle.vec2d.specs.Points.{point}
 use Rattle.faceijk.specs.declared.Place.{Place}
 use Rattle.faceijk.specs.Places.{coordOf, sumAt}
 use Rattle.faceijk.proofs.Taking.{sound-at}

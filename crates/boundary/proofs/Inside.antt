@@ -2,12 +2,11 @@
 use mathlib.Core.Path.{_≡_, refl, sym, ap, _∙_}
 use mathlib.Core.Bool.{Bool, true, false}
 use mathlib.Core.List.{List}
-use Prim.Native.Nat.{ℕ, zero, suc, _+_, _*_, _≤_, _<_}
+use Prim.Native.Nat.{ℕ, zero, suc, _+_, _≤_, _<_}
 use native.Mathlib.Decide.{ℕ-discrete}
 use native.Mathlib.Numerals.{add-one}
 use native.Mathlib.Omega.{arith}
-use lib.Dec.{T, eqb, leb, leb→le}
-use lib.ListN.{length}
+use lib.Dec.{eqb, leb, leb→le}
 use borrow.Author.Tests.{eq-eqb, ne-eqb}
 use Rattle.reply.specs.Choice.{pick}
 use Rattle.reply.specs.declared.Verdict.the-variants.{Fine}
@@ -20,7 +19,6 @@ use Rattle.faceijk.specs.Places.{sumAt}
 use Rattle.faceijk.specs.Crossing.{landed}
 use Rattle.boundary.specs.declared.Shape.{Shape}
 use Rattle.boundary.specs.declared.BoundaryPoint.{BoundaryPoint}
-use Rattle.boundary.specs.declared.Before.{Before}
 use Rattle.boundary.specs.declared.Before.the-variants.{Nothing}
 use Rattle.boundary.specs.Corners.{offsetOf, cornerOf}
 use Rattle.boundary.specs.Landing.{substrateOf, cornerPlace, vertexOf, landAt}

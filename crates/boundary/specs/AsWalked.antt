@@ -23,7 +23,7 @@ use Rattle.boundary.specs.declared.Before.the-variants.{Nothing}
 use Rattle.boundary.specs.Corners.{rangeReasons, cellReasons}
 use Rattle.boundary.specs.Landing.{substrateOf, vertexOf}
 use Rattle.boundary.specs.CrossingPoints.{crossingBetween}
-use Rattle.boundary.specs.Boundaries.{pointsTo, orElse, verdictTo, turnsFor, askedShape, boundaryVerdict, boundaryPoints, noPoint, padded}
+use Rattle.boundary.specs.Boundaries.{pointsTo, orElse, verdictTo, turnsFor, boundaryVerdict, boundaryPoints, noPoint, padded}
 
 -- the tests of a cell, and those that follow face and level
 abbrev pub rangeVerdict : CoordIJK → Bool → Verdict

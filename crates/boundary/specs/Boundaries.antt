@@ -1,8 +1,7 @@
 -- The boundary of a cell: the points of its turns in their order, the record that holds them, and the entries in the paper's numbers.
-use mathlib.Core.Path.{_≡_}
-use mathlib.Core.Bool.{Bool, true, false, _||_}
+use mathlib.Core.Bool.{Bool, true, _||_}
 use mathlib.Core.List.{List, [], _∷_, _++_}
-use Prim.Native.Nat.{ℕ, zero, suc, _+_, _-_, _*_, _≤_, _<_}
+use Prim.Native.Nat.{ℕ, zero, suc, _+_, _-_}
 use lib.ListN.{length, replicate}
 use lib.Dec.{eqb, ltb, leb}
 use lib.Ieee.{binary64, toBits}
@@ -12,17 +11,17 @@ use Rattle.reply.specs.declared.Verdict.the-variants.{Fine}
 use Rattle.reply.specs.declared.Refusal.the-variants.{OutOfFace}
 use Rattle.reply.specs.Replies.{verdictNumber, Reason, when, first, Reply, reply}
 use Rattle.double.specs.Double.{nought}
-use Rattle.level.specs.Levels.{badGrid, raisedOf, limitOf}
+use Rattle.level.specs.Levels.{raisedOf, limitOf}
 use Rattle.coordijk.specs.Coordinates.{sumOf}
 use Rattle.faceijk.specs.declared.Place.{Place}
-use Rattle.faceijk.specs.Places.{coordOf, sumAt}
+use Rattle.faceijk.specs.Places.{coordOf}
 use Rattle.boundary.specs.declared.Shape.{Shape}
 use Rattle.boundary.specs.declared.BoundaryPoint.{BoundaryPoint}
 use Rattle.boundary.specs.declared.Boundary.{Boundary}
 use Rattle.boundary.specs.declared.Before.{Before}
 use Rattle.boundary.specs.declared.Before.the-variants.{Nothing, Point, Refused}
 use Rattle.boundary.specs.Corners.{classIII, throughApertures, cellReasons}
-use Rattle.boundary.specs.Landing.{cellOf, shapeOf, substrateOf, landAt}
+use Rattle.boundary.specs.Landing.{cellOf, shapeOf, landAt}
 use Rattle.boundary.specs.CrossingPoints.{cornerPoint, beforeAt}
 
 -- the points of turn k: the crossing point before its corner, if there is one, and the corner; a turn past all corners only looks for a crossing point on the last edge

@@ -1,7 +1,7 @@
 -- The corners of a cell: document 01, "Corners and boundary", first half.
 use mathlib.Core.Bool.{Bool}
 use mathlib.Core.List.{List, [], _∷_, _++_}
-use Prim.Native.Nat.{ℕ, _+_, _*_, _/_, _%_, _^_, _≤_}
+use Prim.Native.Nat.{ℕ, _+_, _%_}
 use lib.Dec.{eqb}
 use lib.ListN.{getD}
 use Rattle.reply.specs.Choice.{pick}
