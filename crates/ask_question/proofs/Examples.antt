@@ -9,7 +9,8 @@ use Rattle.bytes.specs.Bytes.{indexOf}
 use Rattle.ask_word.specs.Words.{nought, digitOf, withDigit, spelt, plain, numberFrom, numberField, exactFrom, unsignedField, decimalField, bitsOf, doubleField, same, flagField}
 use Rattle.ask_question.specs.declared.Asked.the-variants.{Round, Cross, Help}
 use Rattle.ask_question.specs.declared.Question.{Question}
-use Rattle.ask_question.specs.Questions.{text, words, askedOf, fieldOf, question, unreadable, filled, questionOf}
+use Rattle.reply.specs.Text.{text}
+use Rattle.ask_question.specs.Questions.{words, askedOf, fieldOf, question, unreadable, filled, questionOf}
 
 -- two doubles by their bits, and zeros
 abbrev pub two : ℕ → ℕ → List Float

@@ -1,12 +1,11 @@
 -- What a line asks: words with single spaces between, of which the first names the question and the others are its fields.
 use mathlib.Core.List.{List, [], _∷_}
 use Prim.Native.Nat.{ℕ, suc}
-use Prim.Native.Char.{code}
-use Prim.Native.String.{String, [] as none, _∷_ as _then_}
 use lib.Dec.{eqb, leb}
 use lib.ListN.{length, set, drop, replicate}
 use lib.Ieee.{Float}
 use Rattle.reply.specs.Choice.{pick}
+use Rattle.reply.specs.Text.{text}
 use Rattle.ask_word.specs.declared.Field.{Field}
 use Rattle.ask_word.specs.Words.{nought, bad, numberField, doubleField, same, flagField}
 use Rattle.ask_question.specs.declared.Asked.{Asked}
@@ -14,11 +13,6 @@ use Rattle.ask_question.specs.declared.Asked.the-variants.{Round, Centre
 use Rattle.ask_question.specs.declared.Question.{Question}
 
 -- ---- words
-
--- the bytes of a text
-abbrev pub text : String → List ℕ
-text none = []
-text (c then s) = code c ∷ text s
 
 -- a byte before the first word
 abbrev pub onto : ℕ → List (List ℕ) → List (List ℕ)

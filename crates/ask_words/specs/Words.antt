@@ -1,11 +1,11 @@
 -- The fixed words of the desk tool's answers, as bytes.
-use Rattle.ask_question.specs.Questions.{text}
 use mathlib.Core.Path.{_≡_}
 use mathlib.Core.List.{List, [], _∷_, _++_}
 use Prim.Native.Nat.{ℕ, _-_, _≤_}
 use lib.Dec.{eqb}
 use lib.ListN.{length, take, getD, replicate}
 use Rattle.reply.specs.Choice.{pick}
+use Rattle.reply.specs.Text.{text}
 use Rattle.ask_words.specs.declared.Word.{Word}
 
 -- the words that stand for a value

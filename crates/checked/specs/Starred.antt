@@ -1,8 +1,10 @@
 -- The cases that document 01 marks with * under "Checked places": each a question and the whole reply, in the paper's numbers.
 use mathlib.Core.Bool.{Bool, true, false}
-use mathlib.Core.List.{List, [], _∷_}
+use mathlib.Core.List.{List, [], _∷_, _++_}
 use Prim.Native.Nat.{ℕ}
+use Prim.Native.String.{String}
 use lib.Ieee.{Float}
+use Rattle.reply.specs.Text.{text}
 use Rattle.reply.specs.Replies.{Reply, answer, zeros}
 use Rattle.double.specs.Double.{decimal}
 use Rattle.vec2d.specs.Points.{point}
@@ -11,6 +13,7 @@ use Rattle.faceijk.specs.declared.Place.{Place}
 use Rattle.faceijk.specs.Places.{QAt}
 use Rattle.faceijk.specs.Entries.{crossReply}
 use Rattle.boundary.specs.Corners.{cornersReply}
+use Rattle.walk_lines.specs.Lines.{newline}
 use Rattle.walk.specs.Texts.{inputText}
 
 -- what the paper asks: rounding a point; crossing from a place at a grid level, plain or substrate, the turn asked or not; the Q of a place; the corners of a centre at a cell level; what `walk` prints for an input
@@ -67,18 +70,9 @@ face-edge = 1
 abbrev new-face : ℕ
 new-face = 2
 
--- 0 0 p 3 0 0
-abbrev input : List ℕ
-input = 48 ∷ 32 ∷ 48 ∷ 32 ∷ 112 ∷ 32 ∷ 51 ∷ 32 ∷ 48 ∷ 32 ∷ 48 ∷ []
-
--- from 0 3 0 0 / over 4 3 1 0 / over 3 2 1 0 / over 2 1 0 0 / rest 2 1 0 0 3
-abbrev text : List ℕ
-text =
-    102 ∷ 114 ∷ 111 ∷ 109 ∷ 32 ∷ 48 ∷ 32 ∷ 51 ∷ 32 ∷ 48 ∷ 32 ∷ 48 ∷ 10 ∷
-    111 ∷ 118 ∷ 101 ∷ 114 ∷ 32 ∷ 52 ∷ 32 ∷ 51 ∷ 32 ∷ 49 ∷ 32 ∷ 48 ∷ 10 ∷
-    111 ∷ 118 ∷ 101 ∷ 114 ∷ 32 ∷ 51 ∷ 32 ∷ 50 ∷ 32 ∷ 49 ∷ 32 ∷ 48 ∷ 10 ∷
-    111 ∷ 118 ∷ 101 ∷ 114 ∷ 32 ∷ 50 ∷ 32 ∷ 49 ∷ 32 ∷ 48 ∷ 32 ∷ 48 ∷ 10 ∷
-    114 ∷ 101 ∷ 115 ∷ 116 ∷ 32 ∷ 50 ∷ 32 ∷ 49 ∷ 32 ∷ 48 ∷ 32 ∷ 48 ∷ 32 ∷ 51 ∷ 10 ∷ []
+-- a line, ended by a newline
+abbrev line : String → List ℕ
+line s = text s ++ newline ∷ []
 
 abbrev pub starred : List Case
 starred =
@@ -96,4 +90,5 @@ starred =
     case (cross (at 20 1 0 0) 0 plain false) (refused 3) ∷
     case (corners (at 0 1 0 0) 0) (values (0 ∷ 5 ∷ 1 ∷ 0 ∷ 4 ∷ 2 ∷ 0 ∷ 2 ∷ 1 ∷ 0 ∷ 2 ∷ 0 ∷ 1 ∷ 4 ∷ 0 ∷ 2 ∷ 5 ∷ 0 ∷ 1 ∷ [])) ∷
     case (corners (at 0 1 0 0) 1) (values (2 ∷ 14 ∷ 7 ∷ 0 ∷ 10 ∷ 8 ∷ 0 ∷ 5 ∷ 4 ∷ 0 ∷ 5 ∷ 0 ∷ 1 ∷ 10 ∷ 0 ∷ 2 ∷ 13 ∷ 2 ∷ 0 ∷ [])) ∷
-    case (walk input) (printed text) ∷ []
+    case (walk (text "0 0 p 3 0 0"))
+    (printed (line "from 0 3 0 0" ++ line "over 4 3 1 0" ++ line "over 3 2 1 0" ++ line "over 2 1 0 0" ++ line "rest 2 1 0 0 3")) ∷ []

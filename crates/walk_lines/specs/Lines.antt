@@ -6,6 +6,7 @@ use lib.Dec.{ltb}
 use lib.ListN.{length, replicate}
 use lib.Seq.{sets}
 use Rattle.reply.specs.Choice.{pick}
+use Rattle.reply.specs.Text.{text}
 use Rattle.reply.specs.declared.Refusal.{Refusal}
 use Rattle.reply.specs.Replies.{numberOf}
 use Rattle.faceijk.specs.declared.Place.{Place}
@@ -26,18 +27,18 @@ digitsTo (suc t) n = pick (ltb n 10) (digit n ∷ []) (digitsTo t (n / 10) ++ di
 unfoldable pub decimal : ℕ → List ℕ
 decimal n = digitsTo (suc n) n
 
--- the bytes of from, over, rest and refused, of a space and of a newline
+-- the fixed words, a space and a newline
 abbrev pub fromWord : List ℕ
-fromWord = 102 ∷ 114 ∷ 111 ∷ 109 ∷ []
+fromWord = text "from"
 
 abbrev pub overWord : List ℕ
-overWord = 111 ∷ 118 ∷ 101 ∷ 114 ∷ []
+overWord = text "over"
 
 abbrev pub restWord : List ℕ
-restWord = 114 ∷ 101 ∷ 115 ∷ 116 ∷ []
+restWord = text "rest"
 
 abbrev pub refusedWord : List ℕ
-refusedWord = 114 ∷ 101 ∷ 102 ∷ 117 ∷ 115 ∷ 101 ∷ 100 ∷ []
+refusedWord = text "refused"
 
 abbrev pub space : ℕ
 space = 32

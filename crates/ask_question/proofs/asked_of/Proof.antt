@@ -5,7 +5,8 @@ use Rattle.reply.specs.Choice.{pick}
 use Rattle.ask_word.specs.Words.{same}
 use Rattle.ask_question.specs.declared.Asked.{Asked}
 use Rattle.ask_question.specs.declared.Asked.the-variants.{Round, Centre, Meet, Turn, Step, Cross, Settle, Direction, Same, Nearest, Place, Corners, Hexagon, Pentagon}
-use Rattle.ask_question.specs.Questions.{text, askedOf}
+use Rattle.reply.specs.Text.{text}
+use Rattle.ask_question.specs.Questions.{askedOf}
 use borrow.Author.Needs.{needs}
 use Rattle.ask_question.proofs.asked_of.Statement.{statement}
 use Rattle.ask_question.proofs.asked_of.Tie as tie
