@@ -12,6 +12,7 @@ use Rattle.reply.specs.declared.Refusal.{Refusal}
 use Rattle.reply.specs.declared.Refusal.the-variants.{BadFrame, BadRows, BadFace, BadLevel, BadRange, BadNumber, OffSphere, Behind, TooFar, NotReduced, OutOfFace, NotAdjacent, NoCrossing, BadLine}
 use Rattle.reply.specs.declared.Verdict.{Verdict}
 use Rattle.reply.specs.declared.Verdict.the-variants.{Fine, Refused}
+use Rattle.reply.proofs.Numbers.{number-low}
 use Rattle.reply.specs.Replies.{numberOf, verdictNumber, Reply}
 use Rattle.reply.proofs.Numbers.{number-pos}
 use Rattle.walk_lines.specs.Lines.{field, space, newline}
@@ -146,23 +147,7 @@ name-short r =
     ]
 
 few : (r : Refusal) → numberOf r < 4294967296
-few r =
-    elim r [
-      | BadFrame ↦ omega arith
-      | BadRows ↦ omega arith
-      | BadFace ↦ omega arith
-      | BadLevel ↦ omega arith
-      | BadRange ↦ omega arith
-      | BadNumber ↦ omega arith
-      | OffSphere ↦ omega arith
-      | Behind ↦ omega arith
-      | TooFar ↦ omega arith
-      | NotReduced ↦ omega arith
-      | OutOfFace ↦ omega arith
-      | NotAdjacent ↦ omega arith
-      | NoCrossing ↦ omega arith
-      | BadLine ↦ omega arith
-    ]
+few r = omega (arith, number-low r)
 
 pub refused-short : (r : Refusal) → length (refusedText (numberOf r)) ≤ 40
 unfolding refusedText

@@ -2,17 +2,17 @@
 use mathlib.Core.Path.{_≡_, refl}
 use mathlib.Core.Bool.{true, not}
 use Prim.Native.Nat.{ℕ, zero, suc, _^_, _<_}
+use native.Mathlib.Nat.{lt-of-le-of-lt}
 use native.Mathlib.Omega.{arith}
 use lib.IntN.{pos, negℤ, _-ℤ_}
-use lib.Dec.{eqb}
+use lib.Dec.{eqb, lit<}
 use mir.Syntax.{w32}
 use mir.Val.{SFits, toZ}
 use mir.ValLaws.{toZ-ofZ}
 use borrow.Author.Tests.{ne-eqb}
 use Rattle.reply.specs.declared.Refusal.{Refusal}
-use Rattle.reply.specs.declared.Refusal.the-variants.{BadFrame, BadRows, BadFace, BadLevel, BadRange, BadNumber, OffSphere, Behind, TooFar, NotReduced, OutOfFace, NotAdjacent, NoCrossing, BadLine}
 use Rattle.reply.specs.Replies.{numberOf}
-use Rattle.reply.proofs.Numbers.{number-pos}
+use Rattle.reply.proofs.Numbers.{number-pos, number-low}
 use Rattle.coordijk.proofs.Differences.{diff-neg}
 
 pub seen : (x : ℕ) → x < 2 ^ 31 → toZ w32 x ≡ pos x
@@ -26,21 +26,8 @@ pub minus-fits : (n : ℕ) → n < 2 ^ 31 → SFits w32 (negℤ (pos n))
 minus-fits zero h = record { sfits = omega arith }
 minus-fits (suc n) h = record { sfits = omega arith }
 
-pub number-low : (r : Refusal) → numberOf r < 2 ^ 31
-number-low BadFrame = omega arith
-number-low BadRows = omega arith
-number-low BadFace = omega arith
-number-low BadLevel = omega arith
-number-low BadRange = omega arith
-number-low BadNumber = omega arith
-number-low OffSphere = omega arith
-number-low Behind = omega arith
-number-low TooFar = omega arith
-number-low NotReduced = omega arith
-number-low OutOfFace = omega arith
-number-low NotAdjacent = omega arith
-number-low NoCrossing = omega arith
-number-low BadLine = omega arith
+pub number-fits : (r : Refusal) → numberOf r < 2 ^ 31
+number-fits r = lt-of-le-of-lt (number-low r) (lit< tt)
 
 -- a refusal's number is not 0
 pub number-some : (r : Refusal) → not (eqb (numberOf r) 0) ≡ true

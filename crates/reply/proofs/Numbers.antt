@@ -1,7 +1,7 @@
--- Each refusal has a number of its own, and none has 0. Assumes nothing.
+-- Each refusal has a number of its own, none has 0, and none is above 18. Assumes nothing.
 use mathlib.Core.Path.{_≡_, refl, sym, ap, _∙_}
 use mathlib.Core.List.{List, [], _∷_}
-use Prim.Native.Nat.{ℕ, zero, suc, _<_}
+use Prim.Native.Nat.{ℕ, zero, suc, _≤_, _<_}
 use native.Mathlib.Omega.{arith}
 use Rattle.reply.specs.declared.Refusal.{Refusal}
 use Rattle.reply.specs.declared.Refusal.the-variants.{BadFrame, BadRows, BadFace, BadLevel, BadRange, BadNumber, OffSphere, Behind, TooFar, NotReduced, OutOfFace, NotAdjacent, NoCrossing, BadLine}
@@ -55,6 +55,23 @@ number-pos OutOfFace = omega arith
 number-pos NotAdjacent = omega arith
 number-pos NoCrossing = omega arith
 number-pos BadLine = omega arith
+
+-- and none is above 18, the last that the paper's requests name
+pub number-low : (r : Refusal) → numberOf r ≤ 18
+number-low BadFrame = omega arith
+number-low BadRows = omega arith
+number-low BadFace = omega arith
+number-low BadLevel = omega arith
+number-low BadRange = omega arith
+number-low BadNumber = omega arith
+number-low OffSphere = omega arith
+number-low Behind = omega arith
+number-low TooFar = omega arith
+number-low NotReduced = omega arith
+number-low OutOfFace = omega arith
+number-low NotAdjacent = omega arith
+number-low NoCrossing = omega arith
+number-low BadLine = omega arith
 
 -- Two verdicts with one number are one.
 pub same-verdict : {a b : Verdict} → verdictNumber a ≡ verdictNumber b → a ≡ b

@@ -4,3 +4,4 @@ pub mod Stepping
 pub mod Meeting
 pub mod Writing
 pub mod Laws
+pub mod Running

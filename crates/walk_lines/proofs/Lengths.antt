@@ -5,6 +5,7 @@ use Prim.Native.Nat.{ℕ, _+_, _≤_, _<_}
 use native.Mathlib.Omega.{arith}
 use lib.ListN.{length, length-append}
 use Rattle.reply.specs.declared.Refusal.{Refusal}
+use Rattle.reply.proofs.Numbers.{number-low}
 use Rattle.reply.specs.Replies.{numberOf}
 use Rattle.reply.specs.declared.Refusal.the-variants.{BadFrame, BadRows, BadFace, BadLevel, BadRange, BadNumber, OffSphere, Behind, TooFar, NotReduced, OutOfFace, NotAdjacent, NoCrossing, BadLine}
 use Rattle.walk_lines.specs.declared.Line.{Line}
@@ -66,23 +67,7 @@ FitsLine (Line.Rest s) = Fits (s .place) × (s .steps < 18446744073709551616)
 FitsLine (Line.Refused r) = Unit {0}
 
 few : (r : Refusal) → numberOf r < 4294967296
-few r =
-    elim r [
-      | BadFrame ↦ omega arith
-      | BadRows ↦ omega arith
-      | BadFace ↦ omega arith
-      | BadLevel ↦ omega arith
-      | BadRange ↦ omega arith
-      | BadNumber ↦ omega arith
-      | OffSphere ↦ omega arith
-      | Behind ↦ omega arith
-      | TooFar ↦ omega arith
-      | NotReduced ↦ omega arith
-      | OutOfFace ↦ omega arith
-      | NotAdjacent ↦ omega arith
-      | NoCrossing ↦ omega arith
-      | BadLine ↦ omega arith
-    ]
+few r = omega (arith, number-low r)
 
 -- no line has more than 70 bytes
 pub longest : (line : Line) → FitsLine line → length (lineText line) ≤ 70

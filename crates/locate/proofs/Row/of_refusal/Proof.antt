@@ -4,12 +4,12 @@ use mathlib.Core.Path.{_≡_, sym, subst}
 use Prim.Native.Nat.{_^_, _<_}
 use mir.Syntax.{w32}
 use mir.ValLaws.{toZ-ofZ}
-use Rattle.locate.proofs.Signed.{seen, taken-from-none, minus-fits, number-low, number-some}
+use Rattle.locate.proofs.Signed.{seen, taken-from-none, minus-fits, number-fits, number-some}
 use Rattle.locate.proofs.Row.of_refusal.Statement.{statement}
 use Rattle.locate.proofs.Row.of_refusal.Tie as tie
 
 low : (c : tie.After-number) → c .number .result < 2 ^ 31
-low c = rw (c .number .ensures) (number-low (c .before .args .found))
+low c = rw (c .number .ensures) (number-fits (c .before .args .found))
 
 cast-number : tie.Need-cast-number
 cast-number c = record { sfits = low c }
