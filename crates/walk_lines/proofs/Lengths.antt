@@ -7,7 +7,6 @@ use lib.ListN.{length, length-append}
 use Rattle.reply.specs.declared.Refusal.{Refusal}
 use Rattle.reply.proofs.Numbers.{number-low}
 use Rattle.reply.specs.Replies.{numberOf}
-use Rattle.reply.specs.declared.Refusal.the-variants.{BadFrame, BadRows, BadFace, BadLevel, BadRange, BadNumber, OffSphere, Behind, TooFar, NotReduced, OutOfFace, NotAdjacent, NoCrossing, BadLine}
 use Rattle.walk_lines.specs.declared.Line.{Line}
 use Rattle.faceijk.specs.declared.Place.{Place}
 use Rattle.faceijk.specs.declared.Rested.{Rested}

@@ -1,6 +1,5 @@
 -- `Row::of_refusal` meets its contract: minus a refusal's number fits. Assumes nothing.
 use borrow.Author.Needs.{needs}
-use mathlib.Core.Path.{_≡_, sym, subst}
 use Prim.Native.Nat.{_^_, _<_}
 use mir.Syntax.{w32}
 use mir.ValLaws.{toZ-ofZ}
