@@ -4,7 +4,7 @@ use mathlib.Core.List.{List, [], _∷_}
 use Prim.Native.Nat.{ℕ}
 use Rattle.reply.specs.declared.Refusal.the-variants.{TooFar, BadLine}
 use Rattle.reply.specs.Replies.{Reply, answer, zeros, refusal}
-use Rattle.walk_lines.specs.Lines.{digitsTo, decimal, field}
+use Rattle.text.specs.Numbers.{digitsTo, decimal, field}
 use Rattle.ask_words.specs.Words.{nameOf, overageText, agreedText, markText}
 use Rattle.ask_question.specs.declared.Asked.{Asked}
 use Rattle.ask_lines.specs.Texts.{hexDigit, hexTo, valueText, fieldText, textTo, valuesText, refusedText, lineText, answerText}

@@ -15,9 +15,9 @@ use Rattle.reply.specs.declared.Verdict.the-variants.{Fine, Refused}
 use Rattle.reply.proofs.Numbers.{number-low}
 use Rattle.reply.specs.Replies.{numberOf, verdictNumber, Reply}
 use Rattle.reply.proofs.Numbers.{number-pos}
-use Rattle.walk_lines.specs.Lines.{field, space, newline}
-use Rattle.walk_lines.proofs.Decimals.{short10, short20}
-use Rattle.walk_lines.proofs.Lengths.{field-length}
+use Rattle.text.specs.Numbers.{field, space, newline}
+use Rattle.text.proofs.Decimals.{short10, short20}
+use Rattle.text.proofs.Decimals.{field-length}
 use Rattle.ask_question.specs.declared.Asked.{Asked}
 use Rattle.ask_values.specs.declared.Answer.{Answer}
 use Rattle.ask_values.specs.Values.{saidAnswer}

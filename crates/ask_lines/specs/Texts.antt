@@ -6,7 +6,8 @@ use lib.Dec.{eqb, ltb}
 use lib.ListN.{length, getD}
 use Rattle.reply.specs.Choice.{pick}
 use Rattle.reply.specs.Replies.{Reply}
-use Rattle.walk_lines.specs.Lines.{decimal, field, refusedWord, space, newline}
+use Rattle.text.specs.Numbers.{decimal, field, space, newline}
+use Rattle.walk_lines.specs.Lines.{refusedWord}
 use Rattle.ask_question.specs.declared.Asked.{Asked}
 use Rattle.ask_words.specs.declared.Kind.{Kind}
 use Rattle.ask_words.specs.declared.Layout.{Layout}

@@ -4,7 +4,7 @@ ghost use mathlib.Core.List.{[], _∷_, _++_};
 ghost use Prim.Native.Nat.{_+_, _≤_, _<_, min};
 ghost use lib.ListN.{length, take};
 ghost use Rattle.reply.specs.Replies.{numberOf};
-ghost use Rattle.walk_lines.specs.Lines.{decimal, field};
+ghost use Rattle.text.specs.Numbers.{decimal, field};
 ghost use Rattle.ask_values.specs.Values.{saidAnswer};
 ghost use Rattle.ask_words.specs.Words.{nameOf, spelled};
 ghost use Rattle.ask_words.specs.Kinds.{bordered};

@@ -10,7 +10,8 @@ use Rattle.faceijk.specs.Crossing.{aboutCorner, stepOut, crossingOf, settleFrom
 use Rattle.vec2d.specs.Points.{isPoint}
 use Rattle.vec2d.specs.Rounding.{tooFar, quantizedOf, stepsOf, foldOf, nearestOf}
 use Rattle.boundary.specs.Corners.{throughApertures, cornerOf, sixCorners}
-use Rattle.walk_lines.specs.Lines.{digitsTo, decimal, field, placeFields, placeLine, restLine, refusedLine}
+use Rattle.text.specs.Numbers.{digitsTo, decimal, field}
+use Rattle.walk_lines.specs.Lines.{placeFields, placeLine, restLine, refusedLine}
 use Rattle.walk_question.specs.Cursor.{withDigit, numberAt, spacedAt, lastAt, kindAt, ofFields, readingOf}
 use Rattle.walk.specs.Texts.{pathFrom, path, questionText}
 use Rattle.checked.specs.Starred.{Case, said, starred}

@@ -13,7 +13,7 @@ use Rattle.faceijk.specs.declared.Place.{Place}
 use Rattle.faceijk.specs.Places.{QAt}
 use Rattle.faceijk.specs.Entries.{crossReply}
 use Rattle.boundary.specs.Corners.{cornersReply}
-use Rattle.walk_lines.specs.Lines.{newline}
+use Rattle.text.specs.Numbers.{newline}
 use Rattle.walk.specs.Texts.{inputText}
 
 -- what the paper asks: rounding a point; crossing from a place at a grid level, plain or substrate, the turn asked or not; the Q of a place; the corners of a centre at a cell level; what `walk` prints for an input

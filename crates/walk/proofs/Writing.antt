@@ -6,13 +6,12 @@ use Prim.Native.Nat.{ℕ, suc, _+_, _-_, _≤_, _<_}
 use native.Mathlib.Omega.{arith}
 use lib.Dec.{ltb}
 use lib.ListN.{length, take, drop, length-append, length-drop}
-use lib.Seq.{paste, take-at, drop-at, drop-drop, length-take-le}
+use lib.Seq.{sets-eq, take-at, drop-at, drop-drop, length-take-le}
 use borrow.Author.Tests.{ltb-true}
 use Rattle.level.specs.Levels.{bit}
+use Rattle.text.specs.Writing.{PutAt}
 use Rattle.walk_lines.specs.declared.Line.{Line}
-use Rattle.walk_lines.specs.declared.Text.{Text}
-use Rattle.walk_lines.specs.Lines.{Spells, lineText, fromWord, overWord}
-use Rattle.walk_lines.proofs.Putting.{spelt, room}
+use Rattle.walk_lines.specs.Lines.{lineText, fromWord, overWord}
 use Rattle.walk_lines.proofs.Lengths.{place-line-length, rest-line-length, refused-line-length}
 use Rattle.walk.specs.declared.State.{State}
 use Rattle.walk.specs.declared.Step.{Step}
@@ -21,15 +20,8 @@ use Rattle.walk.specs.Texts.{stepOf}
 use Rattle.walk.specs.Writing.{Lines, none, more, Stopped, ended, full, Begun, PutLine, put, left, OneMore, wrote, stays}
 
 -- a line that fits stands at its index
-pub was-put : {x : List ℕ} (t : Text) (old new : List ℕ) (at : ℕ) → Spells x t → at + t .len ≤ length old → new ≡ paste old at (t .bytes) (t .len) → PutLine x old new at (at + t .len)
-was-put {x} t old new at s h e =
-    put (ap (λ (n : ℕ). at + n) (s .count)) (omega (arith, s .count))
-    (e ∙
-    (append-assoc (take at old) (take (t .len) (t .bytes)) (drop (at + t .len) old) ∙
-    (λ n. take at old ++ (spelt t s n ++ drop (at + s .count n) old))))
-
-pub not-put : {x : List ℕ} (t : Text) (old : List ℕ) (at : ℕ) → Spells x t → length (t .bytes) ≡ 70 → length old - at < t .len → PutLine x old old at at
-not-put t old at s e h = left refl refl (omega (arith, s .count)) (omega (arith, s .count, room t s e))
+pub was-put : {x old new : List ℕ} {at r : ℕ} → at + length x ≤ length old → PutAt x old new at r → PutLine x old new at r
+was-put {x} {old} {new} {at} h p = put (p .end) h (p .bytes ∙ (sets-eq x old at h ∙ append-assoc (take at old) x (drop (at + length x) old)))
 
 -- no line is empty
 pub line-some : (line : Line) → 0 < length (lineText line)

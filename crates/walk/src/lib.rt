@@ -4,7 +4,6 @@ ghost use mathlib.Core.Bool.{false};
 ghost use Prim.Native.Nat.{_+_, _-_, _≤_, _<_};
 ghost use lib.Dec.{ltb};
 ghost use lib.ListN.{length};
-ghost use lib.Seq.{paste};
 ghost use Rattle.level.specs.Levels.{badGrid, limitOf};
 ghost use Rattle.faceijk.specs.Places.{sumAt};
 ghost use Rattle.walk_lines.specs.Lines.{lineText};
@@ -131,30 +130,17 @@ fn next_line(state: State) -> Step
     }
 }
 
-fn copy_to(bytes: [u8; 70], n: usize, buf: &mut [u8], at: usize)
-    requires { ⌜ (n ≤ 70) × (at + n ≤ length (now buf)) ⌝ }
-    ensures { λ _. ⌜ now (buf .exit) ≡ paste (now (buf .entry)) at bytes n ⌝ }
-{
-    let mut i = 0;
-    while i < n {
-        buf[at + i] = bytes[i];
-        i += 1;
-    }
-}
-
 // Writes a line at an index if it fits there, and answers the index after it; or the same index, and nothing is written.
 fn put_line(line: Line, buf: &mut [u8], at: usize) -> usize
     requires { ⌜ at ≤ length (now buf) ⌝ }
     ensures { λ r. ⌜ PutLine (lineText line) (now (buf .entry)) (now (buf .exit)) at r ⌝ }
 {
-    let text = walk_lines::line_text(line);
-    let n = text.len;
-    let bytes = text.bytes;
+    let mut bytes = [0u8; 70];
+    let n = walk_lines::write_line(line, &mut bytes);
     if buf.len() - at < n {
         return at;
     }
-    copy_to(bytes, n, buf, at);
-    at + n
+    text::put_word(buf, at, &bytes[..n])
 }
 
 // One line more, if there is one and it fits.

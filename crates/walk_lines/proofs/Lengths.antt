@@ -7,15 +7,12 @@ use lib.ListN.{length, length-append}
 use Rattle.reply.specs.declared.Refusal.{Refusal}
 use Rattle.reply.proofs.Numbers.{number-low}
 use Rattle.reply.specs.Replies.{numberOf}
+use Rattle.text.specs.Numbers.{field, newline}
+use Rattle.text.proofs.Decimals.{field-length, short10, short20}
 use Rattle.walk_lines.specs.declared.Line.{Line}
 use Rattle.faceijk.specs.declared.Place.{Place}
 use Rattle.faceijk.specs.declared.Rested.{Rested}
-use Rattle.walk_lines.specs.Lines.{fromWord, overWord, lineText, decimal, field, placeFields, placeLine, restLine, refusedLine, newline}
-use Rattle.walk_lines.proofs.Decimals.{short10, short20}
-
-pub field-length : (n : ℕ) → length (field n) ≡ length (decimal n) + 1
-unfolding field
-field-length n = omega arith
+use Rattle.walk_lines.specs.Lines.{fromWord, overWord, lineText, placeFields, placeLine, restLine, refusedLine}
 
 pub place-length : (p : Place) → length (placeFields p) ≡ length (field (p .face)) + length (field (p .i)) + length (field (p .j)) + length (field (p .k))
 unfolding placeFields

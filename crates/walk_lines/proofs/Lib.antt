@@ -1,5 +1,2 @@
--- Laws of `walk_lines`: lines: their digits and lengths, and that a line's text is one.
-pub mod Decimals
-pub mod Putting
+-- Laws of `walk_lines`: how long the lines get.
 pub mod Lengths
-pub mod Unique

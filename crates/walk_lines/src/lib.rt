@@ -1,9 +1,9 @@
-// The lines that `walk` prints: each is built in a text by value, with room for the longest.
+// The lines that `walk` prints, each written whole into a lent buffer or not at all.
 ghost use mathlib.Core.Path.{_≡_};
-ghost use Prim.Native.Nat.{_+_, _≤_, _<_};
-ghost use mathlib.Core.List.{[], _∷_};
+ghost use Prim.Native.Nat.{_+_, _≤_};
 ghost use lib.ListN.{length};
-ghost use Rattle.walk_lines.specs.Lines.{decimal, field, placeFields, placeLine, restLine, refusedLine, lineText, Put, Spells};
+ghost use Rattle.text.specs.Writing.{PutAt, Wrote};
+ghost use Rattle.walk_lines.specs.Lines.{placeFields, placeLine, restLine, refusedLine, lineText};
 use faceijk::Place;
 use faceijk::Rested;
 use reply::Refusal;
@@ -16,113 +16,61 @@ pub enum Line {
     Refused(Refusal),
 }
 
-// The first `len` of the bytes. Any line of numbers of their types has at most 70.
-pub struct Text {
-    pub bytes: [u8; 70],
-    pub len: usize,
-}
+// No line is longer: `rest`, four numbers of at most 10 digits, one of at most 20, a space before each, and a newline.
+pub const LONGEST: usize = 70;
 
-fn put_byte(t: Text, b: u8) -> Text
-    requires { ⌜ t .len < 70 ⌝ }
-    ensures { λ r. ⌜ Put t (b ∷ []) r ⌝ }
+fn put_place(buf: &mut [u8], at: usize, p: Place) -> usize
+    requires { ⌜ at + 54 ≤ length (now buf) ⌝ }
+    ensures { λ r. ⌜ PutAt (placeFields p) (now (buf .entry)) (now (buf .exit)) at r ⌝ }
 {
-    let mut bytes = t.bytes;
-    let at = t.len;
-    bytes[at] = b;
-    Text { bytes, len: at + 1 }
+    let face = text::put_spaced(buf, at, p.face as u64);
+    let i = text::put_spaced(buf, face, p.i as u64);
+    let j = text::put_spaced(buf, i, p.j as u64);
+    text::put_spaced(buf, j, p.k as u64)
 }
 
-fn put_word(t: Text, word: &[u8]) -> Text
-    requires { ⌜ t .len + length (now word) ≤ 70 ⌝ }
-    ensures { λ r. ⌜ Put t (now (word .entry)) r ⌝ }
+fn place_line(buf: &mut [u8], word: &[u8], p: Place) -> usize
+    requires { ⌜ (70 ≤ length (now buf)) × (length (now word) ≡ 4) ⌝ }
+    ensures { λ r. ⌜ PutAt (placeLine (now (word .entry)) p) (now (buf .entry)) (now (buf .exit)) 0 r ⌝ }
 {
-    let mut text = t;
-    let mut i = 0;
-    while i < word.len() {
-        text = put_byte(text, word[i]);
-        i += 1;
-    }
-    text
+    let start = text::put_word(buf, 0, word);
+    let end = put_place(buf, start, p);
+    text::put_byte(buf, end, b'\n')
 }
 
-fn put_digit(t: Text, digit: u64) -> Text
-    requires { ⌜ (t .len < 70) × (digit < 10) ⌝ }
-    ensures { λ r. ⌜ Put t ((48 + digit) ∷ []) r ⌝ }
-{
-    put_byte(t, 48 + digit as u8)
-}
-
-fn put_number(t: Text, n: u64) -> Text
-    requires { ⌜ t .len + length (decimal n) ≤ 70 ⌝ }
-    ensures { λ r. ⌜ Put t (decimal n) r ⌝ }
-{
-    if n < 10 {
-        return put_digit(t, n);
-    }
-    let head = put_number(t, n / 10);
-    put_digit(head, n % 10)
-}
-
-fn put_field(t: Text, n: u64) -> Text
-    requires { ⌜ t .len + length (field n) ≤ 70 ⌝ }
-    ensures { λ r. ⌜ Put t (field n) r ⌝ }
-{
-    put_number(put_byte(t, b' '), n)
-}
-
-fn put_place(t: Text, p: Place) -> Text
-    requires { ⌜ t .len + length (placeFields p) ≤ 70 ⌝ }
-    ensures { λ r. ⌜ Put t (placeFields p) r ⌝ }
-{
-    let face = put_field(t, p.face as u64);
-    let i = put_field(face, p.i as u64);
-    let j = put_field(i, p.j as u64);
-    put_field(j, p.k as u64)
-}
-
-fn blank() -> Text
-    ensures { λ r. ⌜ Spells [] r ⌝ }
-{
-    Text {
-        bytes: [0; 70],
-        len: 0,
-    }
-}
-
-fn place_line(word: &[u8], p: Place) -> Text
-    requires { ⌜ length (now word) ≡ 4 ⌝ }
-    ensures { λ r. ⌜ Spells (placeLine (now (word .entry)) p) r ⌝ }
-{
-    put_byte(put_place(put_word(blank(), word), p), b'\n')
-}
-
-fn rest_line(rested: Rested) -> Text
-    ensures { λ r. ⌜ Spells (restLine rested) r ⌝ }
+fn rest_line(buf: &mut [u8], rested: Rested) -> usize
+    requires { ⌜ 70 ≤ length (now buf) ⌝ }
+    ensures { λ r. ⌜ PutAt (restLine rested) (now (buf .entry)) (now (buf .exit)) 0 r ⌝ }
 {
     let place = rested.place;
     let steps = rested.steps;
-    let placed = put_place(put_word(blank(), b"rest"), place);
-    put_byte(put_field(placed, steps), b'\n')
+    let start = text::put_word(buf, 0, b"rest");
+    let placed = put_place(buf, start, place);
+    let end = text::put_spaced(buf, placed, steps);
+    text::put_byte(buf, end, b'\n')
 }
 
-fn refused_line(refusal: Refusal) -> Text
-    ensures { λ r. ⌜ Spells (refusedLine refusal) r ⌝ }
+fn refused_line(buf: &mut [u8], refusal: Refusal) -> usize
+    requires { ⌜ 70 ≤ length (now buf) ⌝ }
+    ensures { λ r. ⌜ PutAt (refusedLine refusal) (now (buf .entry)) (now (buf .exit)) 0 r ⌝ }
 {
     let number = refusal.number();
-    put_byte(
-        put_field(put_word(blank(), b"refused"), number as u64),
-        b'\n',
-    )
+    let start = text::put_word(buf, 0, b"refused");
+    let end = text::put_spaced(buf, start, number as u64);
+    text::put_byte(buf, end, b'\n')
 }
 
-// The bytes of a line.
-pub fn line_text(line: Line) -> Text
-    ensures { λ r. ⌜ Spells (lineText line) r ⌝ }
+// Writes a line at the buffer's start and answers its length. A buffer with fewer than LONGEST bytes stays as it was, and 0 is answered: no line is cut.
+pub fn write_line(line: Line, buf: &mut [u8]) -> usize
+    ensures { λ r. ⌜ Wrote 70 (lineText line) (now (buf .entry)) (now (buf .exit)) r ⌝ }
 {
+    if buf.len() < LONGEST {
+        return 0;
+    }
     match line {
-        Line::From(place) => place_line(b"from", place),
-        Line::Over(place) => place_line(b"over", place),
-        Line::Rest(rested) => rest_line(rested),
-        Line::Refused(refusal) => refused_line(refusal),
+        Line::From(place) => place_line(buf, b"from", place),
+        Line::Over(place) => place_line(buf, b"over", place),
+        Line::Rest(rested) => rest_line(buf, rested),
+        Line::Refused(refusal) => refused_line(buf, refusal),
     }
 }

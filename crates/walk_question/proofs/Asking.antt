@@ -6,7 +6,7 @@ use mathlib.Core.Logic.{_↔_}
 use Prim.Native.Nat.{ℕ}
 use native.Mathlib.Omega.{arith}
 use Rattle.reply.specs.Choice.{pick}
-use Rattle.walk_lines.specs.Lines.{decimal, field}
+use Rattle.text.specs.Numbers.{decimal, field}
 use Rattle.walk_question.specs.declared.Question.{Question}
 use Rattle.walk_question.specs.declared.Reading.{Reading}
 use Rattle.walk_question.specs.Reading.{letter, fieldsOf, Asks, Read}

@@ -8,8 +8,8 @@ use lib.Dec.{ltb, eqb}
 use lib.ListN.{length, getD, drop, length-append, length-drop, drop-of-length-le}
 use borrow.Author.Tests.{lt-ltb, eq-eqb, ltb-true, eqb-true}
 use Rattle.reply.specs.Choice.{pick}
-use Rattle.walk_lines.specs.Lines.{decimal}
-use Rattle.walk_lines.proofs.Decimals.{some-digit}
+use Rattle.text.specs.Numbers.{decimal}
+use Rattle.text.proofs.Decimals.{some-digit}
 use Rattle.walk_question.specs.declared.Digits.{Digits}
 use Rattle.walk_question.specs.declared.Field.{Field}
 use Rattle.walk_question.specs.Reading.{letter, Ends, at-end, at-newline}

@@ -12,8 +12,8 @@ use lib.ListN.{length, getD, drop, length-append, List·getD-eq-default}
 use lib.Seq.{drop-cons, drop-drop, drop-append-seam, getD-drop, getD-append-add}
 use borrow.Author.Tests.{lt-ltb, eq-eqb, ltb-true, eqb-true}
 use Rattle.reply.specs.Choice.{pick}
-use Rattle.walk_lines.specs.Lines.{decimal, digit}
-use Rattle.walk_lines.proofs.Decimals.{small, large, longer, some-digit}
+use Rattle.text.specs.Numbers.{decimal, digit}
+use Rattle.text.proofs.Decimals.{small, large, longer, some-digit}
 use Rattle.walk_question.specs.declared.Digits.{Digits}
 use Rattle.walk_question.specs.Cursor.{byteAt, isDigit, digits, withDigit, numberAt}
 use Rattle.walk_question.proofs.Fields.{both, either, digit-range, digit-taken, digit-left}

@@ -5,7 +5,7 @@ use mathlib.Core.List.{List, [], _∷_, _++_}
 use Prim.Native.Nat.{ℕ, _≤_}
 use lib.ListN.{length}
 use Rattle.reply.specs.Choice.{pick}
-use Rattle.walk_lines.specs.Lines.{decimal, field, space, newline}
+use Rattle.text.specs.Numbers.{decimal, field, space, newline}
 use Rattle.walk_question.specs.declared.Question.{Question}
 use Rattle.walk_question.specs.declared.Reading.{Reading}
 

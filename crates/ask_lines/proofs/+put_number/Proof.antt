@@ -2,7 +2,7 @@
 use Prim.Native.Nat.{ℕ, _≤_, _<_}
 use mathlib.Core.Path.{_∙_}
 use native.Mathlib.Omega.{arith}
-use Rattle.walk_lines.proofs.Decimals.{small, large, longer, some-digit}
+use Rattle.text.proofs.Decimals.{small, large, longer, some-digit}
 use Rattle.ask_lines.proofs.Putting.{put-then, put-length}
 use borrow.Fn.Kinds.{In}
 use borrow.Fn.PlainCycle.{Measures, is, falls, and}

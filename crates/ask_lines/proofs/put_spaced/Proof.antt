@@ -1,8 +1,8 @@
 -- `put_spaced` meets its contract: a space, then the number. Assumes nothing.
 use borrow.Author.Needs.{needs}
 use native.Mathlib.Omega.{arith}
-use Rattle.walk_lines.specs.Lines.{field}
-use Rattle.walk_lines.proofs.Decimals.{short20}
+use Rattle.text.specs.Numbers.{field}
+use Rattle.text.proofs.Decimals.{short20}
 use Rattle.ask_lines.proofs.Putting.{put-then, put-length}
 use Rattle.ask_lines.proofs.put_spaced.Statement.{statement}
 use Rattle.ask_lines.proofs.put_spaced.Tie as tie

@@ -3,7 +3,7 @@ use borrow.Author.Needs.{needs}
 use native.Mathlib.Omega.{arith}
 use Rattle.ask_words.proofs.Spelling.{spelled-is}
 use Rattle.ask_lines.specs.Texts.{valueText}
-use Rattle.walk_lines.proofs.Decimals.{short20}
+use Rattle.text.proofs.Decimals.{short20}
 use Rattle.ask_lines.proofs.put_value.Statement.{statement}
 use Rattle.ask_lines.proofs.put_value.Tie as tie
 

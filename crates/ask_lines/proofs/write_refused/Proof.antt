@@ -1,8 +1,8 @@
 -- `write_refused` meets its contract: the word, the number, the name and a newline. Assumes nothing.
 use borrow.Author.Needs.{needs}
 use native.Mathlib.Omega.{arith}
-use Rattle.walk_lines.proofs.Decimals.{short20}
-use Rattle.walk_lines.proofs.Lengths.{field-length}
+use Rattle.text.proofs.Decimals.{short20}
+use Rattle.text.proofs.Decimals.{field-length}
 use Rattle.ask_lines.specs.Texts.{refusedText}
 use Rattle.ask_lines.proofs.Putting.{put-then, put-length}
 use Rattle.ask_lines.proofs.write_refused.Statement.{statement}
