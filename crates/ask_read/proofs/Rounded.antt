@@ -78,12 +78,12 @@ exact n k h g e =
     let small : q < 2 ^ 53 = lt-of-le-of-lt (div-le-self n (5 ^ k)) (lt-of-lt-of-le h (lit≤ tt)) in
     let j : 1074 - k + k ≡ 1074 = omega arith in
     let value : HasValue (round binary64 false q (2 ^ k)) false q (2 ^ k) =
-        round-exact binary64 false q (2 ^ k) q (1074 - k) (pow-pos k) small
-        (lt-of-lt-of-le (shl-lt 53 (1074 - k) small) (pow-mono {i = 53 + (1074 - k)} {j = 2098} (omega arith)))
-        (ap (λ (i : ℕ). q * 2 ^ i) (sym j) ∙ (ap (λ (p : ℕ). q * p) (pow-add 2 (1074 - k) k) ∙ sym (mul-assoc q (2 ^ (1074 - k)) (2 ^ k)))) in
+    round-exact binary64 false q (2 ^ k) q (1074 - k) (pow-pos k) small
+    (lt-of-lt-of-le (shl-lt 53 (1074 - k) small) (pow-mono {i = 53 + (1074 - k)} {j = 2098} (omega arith)))
+    (ap (λ (i : ℕ). q * 2 ^ i) (sym j) ∙ (ap (λ (p : ℕ). q * p) (pow-add 2 (1074 - k) k) ∙ sym (mul-assoc q (2 ^ (1074 - k)) (2 ^ k)))) in
     let fraction : round binary64 false q (2 ^ k) ≡ round binary64 false (q * 5 ^ k) (2 ^ k * 5 ^ k) =
-        round-same binary64 false q (2 ^ k) (q * 5 ^ k) (2 ^ k * 5 ^ k) (pow-pos k) (mul-pos (pow-pos k) (one-le-pow k 5 (lit< tt)))
-        (ap (λ (x : ℕ). q * x) (mul-comm (2 ^ k) (5 ^ k)) ∙ sym (mul-assoc q (5 ^ k) (2 ^ k))) in
+    round-same binary64 false q (2 ^ k) (q * 5 ^ k) (2 ^ k * 5 ^ k) (pow-pos k) (mul-pos (pow-pos k) (one-le-pow k 5 (lit< tt)))
+    (ap (λ (x : ℕ). q * x) (mul-comm (2 ^ k) (5 ^ k)) ∙ sym (mul-assoc q (5 ^ k) (2 ^ k))) in
     rw (ten-powers k)
     (subst (λ (a : ℕ). HasValue (round binary64 false a (2 ^ k * 5 ^ k)) false a (2 ^ k * 5 ^ k)) whole
     (subst (λ (x : Float). HasValue x false (q * 5 ^ k) (2 ^ k * 5 ^ k)) fraction (longer (round binary64 false q (2 ^ k)) false q (2 ^ k) (5 ^ k) value)))

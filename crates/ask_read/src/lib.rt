@@ -395,7 +395,8 @@ fn fill(asked: Asked, kinds: &[u8], line: &[u8], from: usize) -> Question
 fn row_of(word: &[u8]) -> usize
     ensures { λ r. ⌜ (r ≡ rowOf (now (word .entry)) rows) × (r ≤ 15) ⌝ }
 {
-    let names: &[u8] = b"round    centre   meet     turn     step     cross    settle   directionsame     nearest  place    corners  hexagon  pentagon help     ";
+    let names: &[u8] =
+        b"round    centre   meet     turn     step     cross    settle   directionsame     nearest  place    corners  hexagon  pentagon help     ";
     let mut n = 0;
     while n < 15 {
         let end = bytes::scan::find(names, 9 * n, 9 * n + 9, b' ');
@@ -434,7 +435,8 @@ fn fill_row(row: usize, line: &[u8], from: usize) -> Question
     requires { ⌜ (row ≤ 15) × (from ≤ length (now line) + 1) ⌝ }
     ensures { λ r. ⌜ r ≡ filledBy (rowAt row) (wordsFrom (now (line .entry)) from) ⌝ }
 {
-    let kinds: &[u8] = b"xx      nnn     xxxxxxxxnnnnc   nnpnnnn nnpnnny nnpnnn  nn      nnnnnnnnxxx     nxxx    nnnnn   nnnnnnn nnnnnnn                 ";
+    let kinds: &[u8] =
+        b"xx      nnn     xxxxxxxxnnnnc   nnpnnnn nnpnnny nnpnnn  nn      nnnnnnnnxxx     nxxx    nnnnn   nnnnnnn nnnnnnn                 ";
     let end = bytes::scan::find(kinds, 8 * row, 8 * row + 8, b' ');
     let asked = asked_at(row);
     fill(asked, &kinds[8 * row..end], line, from)
