@@ -71,12 +71,12 @@ fn say_help() {
 
 fn say_answer(frame: &[f64], line: &[u8]) {
     let mut answer = io::buffer();
-    let n = ask::reply_to(frame, line, &mut answer);
+    let n = ask_write::reply_to(frame, line, &mut answer);
     say(&answer[..n]);
 }
 
 fn answer_line(frame: &[f64], line: &[u8]) {
-    if ask::is_help(line) {
+    if ask_write::is_help(line) {
         say_help();
         return;
     }

@@ -1,33 +1,27 @@
--- What answering a line means: what is written lies within the buffer, a line that cannot be read gets 14, the help has no line, and two outcomes of one promise coincide. Assumes nothing.
-use mathlib.Core.Path.{_≡_, sym, ap, subst, _∙_}
+-- What answering a line means: what is written lies within the buffer, a line that cannot be read gets 14, and two outcomes of one promise coincide. Assumes nothing.
+use mathlib.Core.Path.{_≡_, ap, subst, _∙_}
 use mathlib.Core.Bool.{Bool, true, false}
-use mathlib.Core.List.{List, [], _++_}
-use Prim.Native.Nat.{ℕ, _+_, _≤_}
+use mathlib.Core.List.{List, _++_}
+use Prim.Native.Nat.{ℕ, _≤_}
 use native.Mathlib.Omega.{arith}
 use lib.Dec.{ltb}
 use lib.Ieee.{Float}
 use lib.ListN.{length, drop, length-append}
 use Rattle.reply.specs.Choice.{pick}
-use Rattle.reply.specs.Replies.{Reply}
 use Rattle.text.specs.Writing.{Wrote}
 use Rattle.text.proofs.Unique.{one-wrote}
-use Rattle.ask_read.specs.declared.Asked.{Asked}
-use Rattle.ask_read.specs.declared.Asked.the-variants.{Help}
 use Rattle.ask_read.specs.declared.Question.{Question}
 use Rattle.ask_read.specs.Questions.{questionOf, unreadable}
 use Rattle.ask_answer.specs.declared.Answer.{Answer}
 use Rattle.ask_answer.specs.Answers.{Says, saidAnswer, replyTo, replyOf}
-use Rattle.ask_write.specs.Texts.{answerText, valuesText, refusedText, questionText, askText}
-
--- an answer that says a reply has its text
-said : (asked : Asked) (r : Reply) (a : Answer) → Says asked r a → saidAnswer asked a ≡ r
-said asked r a s = λ i. record { number = s .number i; values = s .values i }
+use Rattle.ask_answer.proofs.Saying.{says}
+use Rattle.ask_write.specs.Texts.{answerText, refusedText, questionText, askText}
 
 -- what was written for the question that a line asks and for its reply answers the line
 pub written : (frame : List Float) (bs : List ℕ) (q : Question) (a : Answer) {old new : List ℕ} {n : ℕ} → q ≡ questionOf bs → Says (q .asked) (replyTo frame q) a → Wrote 1100 (answerText (q .asked) (saidAnswer (q .asked) a)) old new n → Wrote 1100 (askText frame bs) old new n
 unfolding askText
 written frame bs q a {old} {new} {n} eq s w =
-    subst (λ (x : List ℕ). Wrote 1100 x old new n) (ap (answerText (q .asked)) (said (q .asked) (replyTo frame q) a s) ∙ ap (questionText frame) eq) w
+    subst (λ (x : List ℕ). Wrote 1100 x old new n) (ap (answerText (q .asked)) (says (q .asked) (replyTo frame q) a s) ∙ ap (questionText frame) eq) w
 
 within-by : (b : Bool) (x old new : List ℕ) (r : ℕ) → r ≡ pick b 0 (length x) → new ≡ pick b old (x ++ drop (length x) old) → r ≤ length new
 within-by true x old new r e n = omega arith

@@ -139,7 +139,12 @@ fn write_border(buf: &mut [u8], a: Answer) -> usize
 {
     let numbers = a.numbers;
     let count = numbers[0];
-    let end = put_values(buf, b"nnxxmnxxmnxxmnxxmnxxmnxxmnxxmnxxmnxxmnxxmnxxmnxxm", shown(count), a);
+    let end = put_values(
+        buf,
+        b"nnxxmnxxmnxxmnxxmnxxmnxxmnxxmnxxmnxxmnxxmnxxmnxxm",
+        shown(count),
+        a,
+    );
     text::put_byte(buf, end, b'\n')
 }
 

@@ -3,7 +3,7 @@ use borrow.Author.Needs.{needs}
 use mathlib.Core.Path.{sym}
 use native.Mathlib.Omega.{arith}
 use lib.Seq.{length-take-le}
-use Rattle.ask.proofs.Laws.{within}
+use Rattle.ask_write.proofs.Laws.{within}
 use Rattle.ask_main.proofs.say_answer.Statement.{statement}
 use Rattle.ask_main.proofs.say_answer.Tie as tie
 

@@ -1,2 +1,0 @@
--- Laws of `ask`, for its readers and callers.
-pub mod Laws

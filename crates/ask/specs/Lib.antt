@@ -1,2 +1,0 @@
--- Definitions of `ask`: the text that answers a line.
-pub mod Asking

@@ -1,0 +1,156 @@
+-- `call` meets its contract: what the C face gives for the question that is asked. Assumes nothing.
+use mathlib.Core.Path.{_≡_, refl, sym, subst}
+use mathlib.Core.List.{List}
+use Prim.Native.Nat.{ℕ}
+use lib.Dec.{lit≤}
+use lib.ListN.{length}
+use Rattle.reply.specs.declared.Refusal.the-variants.{BadLine}
+use Rattle.reply.specs.Replies.{zeros}
+use Rattle.vec3d.specs.Frame.{vecAt}
+use Rattle.lent.specs.Lent.{bitsOf}
+use Rattle.ask_read.specs.declared.Asked.{Asked}
+use Rattle.ask_read.specs.declared.Asked.the-variants.{Round, Centre, Meet, Turn, Step, Cross, Settle, Direction, Same, Nearest, Place, Corners, Hexagon, Pentagon, Help, Unreadable}
+use Rattle.ask_answer.specs.Answers.{numberAt, flagAt, coordAt, placeAt, pointAt, replyOf, replyTo, valuesIn, numbersIn, doublesIn, Holds}
+use Rattle.ask_answer.proofs.Holding.{refused}
+use Rattle.ask_answer.proofs.Calls.{round, centre, meet, turn, step, cross, direction, same, nearest, place-of, corners, border-of}
+use borrow.Author.Needs.{needs}
+use Rattle.ask_answer.proofs.call.Statement.{statement}
+use Rattle.ask_answer.proofs.call.Tie as tie
+
+-- the question that was found
+on : (s : tie.Start) (a : Asked) {k : ℕ} {ns ds : List ℕ} → s .args .q .asked ≡ a → Holds a (replyOf a (s .args .frame .now) (s .args .q .numbers) (s .args .q .doubles)) k ns ds
+    → (s .args .q .asked ≡ Settle → ⊥) → Holds (s .args .q .asked) (replyTo (s .args .frame .now) (s .args .q)) k ns ds
+on s a {k = k} {ns = ns} {ds = ds} e h settling =
+    subst (λ (x : Asked). Holds x (replyOf x (s .args .frame .now) (s .args .q .numbers) (s .args .q .doubles)) k ns ds) (sym e) h
+
+returns : tie.Need-returns
+unfolding replyOf
+returns c =
+    let s = c .before .before .before .before .before .before .before .before .before .before .before in
+    let ds = s .args .q .doubles in
+    on s Round (c .before .before .before .before .enum-told .given .1) (round (s .pre .0) (s .pre .1) (pointAt ds 0) (c .before .before .round .ensures))
+
+returns-2 : tie.Need-returns-2
+unfolding replyOf
+returns-2 c =
+    let s = c .before .before .before .before .before .before .before .before .before .before .before in
+    let ns = s .args .q .numbers in
+    on s Centre (c .before .before .before .before .enum-told2 .given .1) (centre (s .pre .0) (s .pre .1) (coordAt ns 0) (c .before .before .centre .ensures))
+
+returns-3 : tie.Need-returns-3
+unfolding replyOf
+returns-3 c =
+    let s = c .before .before .before .before .before .before .before .before .before .before .before .before in
+    let ds = s .args .q .doubles in
+    let eight : length ds ≡ 8 = search needs in
+    on s Meet (c .before .before .before .before .before .enum-told3 .given .1) (meet (s .pre .0) (s .pre .1) ds eight (c .before .before .meet .ensures))
+
+returns-4 : tie.Need-returns-4
+unfolding replyOf
+returns-4 c =
+    let s = c .before .before .before .before .before .before .before .before .before .before .before in
+    let ns = s .args .q .numbers in
+    on s Turn (c .before .before .before .before .enum-told4 .given .1) (turn (s .pre .0) (s .pre .1) (placeAt ns 0 1) (flagAt ns 4) (c .before .before .turn .ensures))
+
+returns-5 : tie.Need-returns-5
+unfolding replyOf
+returns-5 c =
+    let s = c .before .before .before .before .before .before .before .before .before .before .before in
+    let ns = s .args .q .numbers in
+    on s Step (c .before .before .before .before .enum-told5 .given .1) (step (s .pre .0) (s .pre .1) (placeAt ns 0 3) (numberAt ns 1) (flagAt ns 2) (numberAt ns 6) (c .before .before .step .ensures))
+
+returns-6 : tie.Need-returns-6
+unfolding replyOf
+returns-6 c =
+    let s = c .before .before .before .before .before .before .before .before .before .before .before in
+    let ns = s .args .q .numbers in
+    on s Cross (c .before .before .before .before .enum-told6 .given .1) (cross (s .pre .0) (s .pre .1) (placeAt ns 0 3) (numberAt ns 1) (flagAt ns 2) (flagAt ns 6) (c .before .before .cross .ensures))
+
+returns-7 : tie.Need-returns-7
+returns-7 c settling = absurd (settling (c .enum-told7 .given .1))
+
+returns-8 : tie.Need-returns-8
+unfolding replyOf
+returns-8 c =
+    let s = c .before .before .before .before .before .before .before .before .before .before .before in
+    let ns = s .args .q .numbers in
+    on s Direction (c .before .before .before .before .enum-told8 .given .1) (direction (s .pre .0) (s .pre .1) (numberAt ns 0) (numberAt ns 1) (c .before .before .direction .ensures))
+
+returns-9 : tie.Need-returns-9
+unfolding replyOf
+returns-9 c =
+    let s = c .before .before .before .before .before .before .before .before .before .before .before in
+    let ns = s .args .q .numbers in
+    on s Same (c .before .before .before .before .enum-told9 .given .1) (same (s .pre .0) (s .pre .1) (placeAt ns 0 1) (placeAt ns 4 5) (c .before .before .same-corner .ensures))
+
+returns-10 : tie.Need-returns-10
+unfolding replyOf vecAt
+returns-10 c =
+    let s = c .before .before .before .before .before .before .before .before .before .before .before .before .before .before in
+    let ds = s .args .q .doubles in
+    on s Nearest (c .before .before .before .before .before .before .before .enum-told10 .given .1) (nearest (s .pre .0) (s .pre .1) (s .args .frame .now) (vecAt ds 0) (c .before .before .before .before .nearest .ensures))
+
+returns-11 : tie.Need-returns-11
+unfolding replyOf vecAt
+returns-11 c =
+    let s = c .before .before .before .before .before .before .before .before .before .before .before in
+    let ns = s .args .q .numbers in
+    let ds = s .args .q .doubles in
+    on s Place (c .before .before .before .before .enum-told11 .given .1) (place-of (s .pre .0) (s .pre .1) (s .args .frame .now) (numberAt ns 0) (vecAt ds 1) (c .before .before .place .ensures))
+
+returns-12 : tie.Need-returns-12
+unfolding replyOf
+returns-12 c =
+    let s = c .before .before .before .before .before .before .before .before .before .before .before in
+    let ns = s .args .q .numbers in
+    on s Corners (c .before .before .before .before .enum-told12 .given .1) (corners (s .pre .0) (s .pre .1) (placeAt ns 0 2) (numberAt ns 1) (c .before .before .corners .ensures))
+
+returns-13 : tie.Need-returns-13
+unfolding replyOf
+returns-13 c =
+    let s = c .before .before .before .before .before .before .before .before .before .before .before .before .before .before in
+    let ns = s .args .q .numbers in
+    on s Hexagon (c .before .before .before .before .before .before .before .enum-told13 .given .1) (border-of (s .pre .0) (s .pre .1) Hexagon 6 (placeAt ns 0 2) (numberAt ns 1) (numberAt ns 5) (numberAt ns 6) refl (lit≤ tt) (c .before .before .before .before .hexagon .ensures))
+
+returns-14 : tie.Need-returns-14
+unfolding replyOf
+returns-14 c =
+    let s = c .before .before .before .before .before .before .before .before .before .before .before .before .before .before in
+    let ns = s .args .q .numbers in
+    on s Pentagon (c .before .before .before .before .before .before .before .enum-told14 .given .1) (border-of (s .pre .0) (s .pre .1) Pentagon 5 (placeAt ns 0 2) (numberAt ns 1) (numberAt ns 5) (numberAt ns 6) refl (lit≤ tt) (c .before .before .before .before .pentagon .ensures))
+
+returns-15 : tie.Need-returns-15
+unfolding replyOf valuesIn numbersIn doublesIn
+returns-15 c =
+    let s = c .before .before .before .before .before .before .before in
+    on s Help (c .enum-told15 .given .1) (record { number = refl; values = refl; other-numbers = s .pre .0; other-doubles = s .pre .1 })
+
+returns-16 : tie.Need-returns-16
+unfolding replyOf
+returns-16 c =
+    let s = c .before .before .before .before .before .before .before .before in
+    on s Unreadable (c .before .enum-told16 .given .1) (refused Unreadable 0 BadLine refl (c .number .ensures) (s .pre .0) (s .pre .1))
+
+pub call-spec : {M : Type 1} → statement M
+call-spec =
+    tie.close
+    (tie.spec (λ c. search needs) (λ c. search needs) (λ c. search needs) (λ c κs. search needs) (λ c. search needs) (λ c. search
+    needs) (λ c. search needs) (λ c. search needs) (λ c κs. search needs) (λ c. search needs) (λ c. search needs) (λ c κs. search
+    needs) (λ c. search needs) (λ c. search needs) (λ c. search needs) (λ c. search needs) (λ c. search needs) (λ c. search
+    needs) (λ c κs. search needs) (λ c. search needs) (λ c. search needs) (λ c. search needs) (λ c. search needs) (λ c. search
+    needs) (λ c. search needs) (λ c. search needs) (λ c. search needs) (λ c κs. search needs) (λ c. search needs) (λ c. search
+    needs) (λ c. search needs) (λ c. search needs) (λ c. search needs) (λ c. search needs) (λ c. search needs) (λ c. search
+    needs) (λ c κs. search needs) (λ c. search needs) (λ c. search needs) (λ c. search needs) (λ c. search needs) (λ c κs. search
+    needs) (λ c. search needs) (λ c. search needs) (λ c. search needs) (λ c. search needs) (λ c. search needs) (λ c. search
+    needs) (λ c. search needs) (λ c. search needs) (λ c. search needs) (λ c κs. search needs) (λ c. search needs) (λ c. search
+    needs) (λ c. search needs) (λ c. search needs) (λ c κs. search needs) (λ c. search needs) (λ c. search needs) (λ c. search
+    needs) (λ c. search needs) (λ c. search needs) (λ c κs. search needs) (λ c. search needs) (λ c. search needs) (λ c. search
+    needs) (λ c. search needs) (λ c. search needs) (λ c. search needs) (λ c κs. search needs) (λ c. search needs) (λ c. search
+    needs) (λ c. search needs) (λ c. search needs) (λ c. search needs) (λ c. search needs) (λ c. search needs) (λ c. search
+    needs) (λ c κs. search needs) (λ c. search needs) (λ c. search needs) (λ c. search needs) (λ c. search needs) (λ c. search
+    needs) (λ c. search needs) (λ c. search needs) (λ c. search needs) (λ c κs. search needs) (λ c. search needs) (λ c. search
+    needs) (λ c κs. search needs) (λ c. search needs) returns (λ c. search needs) returns-2 (λ c. search needs) returns-3 (λ c.
+    search needs) returns-4 (λ c. search needs) returns-5 (λ c. search needs) returns-6 returns-7 (λ c. search needs) returns-8
+    (λ c. search needs) returns-9 (λ c. search needs) (λ c. search needs) returns-10 (λ c. search needs) returns-11 (λ c. search
+    needs) returns-12 (λ c. search needs) (λ c. search needs) returns-13 (λ c. search needs) (λ c. search needs) returns-14
+    returns-15 returns-16)

@@ -1,2 +1,0 @@
--- Definitions of `ask_question`: what a line asks.
-pub mod Questions

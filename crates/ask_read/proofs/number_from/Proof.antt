@@ -1,0 +1,26 @@
+-- `number_from` meets its contract. Assumes nothing.
+use borrow.Author.Needs.{needs}
+use native.Mathlib.Omega.{arith}
+use borrow.Author.Tests.{ltb-true}
+use lib.Dec.{ltb}
+use Rattle.ask_read.specs.Words.{numberFrom}
+use Rattle.ask_read.proofs.Spelling.{both}
+use Rattle.ask_read.proofs.number_from.Statement.{statement}
+use Rattle.ask_read.proofs.number_from.Tie as tie
+
+cast-t4 : tie.Need-cast-t4
+cast-t4 c =
+    let d = c .before .before .before .before .args .d in
+    omega (arith, ltb-true (d .value) 4294967296 (both (d .good) (ltb (d .value) 4294967296) (c .before .if1 .taken) .1))
+
+returns : tie.Need-returns
+unfolding numberFrom
+returns c = simp (c .before .if1 .taken)
+
+returns-2 : tie.Need-returns-2
+unfolding numberFrom
+returns-2 c = simp (c .before .if1 .left) (c .not-good .ensures)
+
+pub number-from-spec : {M : Type 1} → statement M
+number-from-spec = tie.close
+    (tie.spec cast-t4 returns (λ c κs. search needs) returns-2)

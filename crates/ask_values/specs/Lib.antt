@@ -1,2 +1,0 @@
--- Definitions of `ask_values`: what an answer says.
-pub mod Values
