@@ -8,6 +8,7 @@ use lib.ListN.{length, getD, drop}
 use Rattle.reply.specs.Choice.{pick}
 use Rattle.reply.specs.Replies.{Reply}
 use Rattle.ask_read.specs.declared.Asked.{Asked}
+use Rattle.ask_read.specs.declared.Asked.the-variants.{Round, Centre, Meet, Turn, Step, Cross, Settle, Direction, Same, Nearest, Place, Corners, Hexagon, Pentagon, Help, Unreadable}
 use Rattle.ask_answer.specs.declared.Answer.{Answer}
 use Rattle.ask_answer.specs.Answers.{kindsOf, isDouble, valuesIn, numbersIn, doublesIn, saidAnswer, Holds, Says}
 
@@ -15,23 +16,67 @@ use Rattle.ask_answer.specs.Answers.{kindsOf, isDouble, valuesIn, number
 pub says : (asked : Asked) (r : Reply) (a : Answer) → Says asked r a → saidAnswer asked a ≡ r
 says asked r a h = λ i. record { number = h .number i; values = h .values i }
 
--- two lists that hold the same values and are the same past them
-record Alike (ks ns ms ds es : List ℕ) : Type 0 where
-  numbers : numbersIn ks ≤ length ns
-  numbers₂ : numbersIn ks ≤ length ms
-  doubles : doublesIn ks ≤ length ds
-  doubles₂ : doublesIn ks ≤ length es
-  values : valuesIn ks ns ds ≡ valuesIn ks ms es
-  more : drop (numbersIn ks) ns ≡ drop (numbersIn ks) ms
-  more₂ : drop (doublesIn ks) ds ≡ drop (doublesIn ks) es
+-- two pairs of lists with the same values by the kinds, and the same past them, are one
+abbrev One : List ℕ → Type 0
+One ks =
+    (ns ms ds es : List ℕ) → numbersIn ks ≤ length ns → numbersIn ks ≤ length ms → doublesIn ks ≤ length ds → doublesIn ks ≤ length es
+    → valuesIn ks ns ds ≡ valuesIn ks ms es → drop (numbersIn ks) ns ≡ drop (numbersIn ks) ms → drop (doublesIn ks) ds ≡ drop (doublesIn ks) es → (ns ≡ ms) × (ds ≡ es)
 
-head : List ℕ → ℕ
-head xs = getD xs 0 0
+front : {x y : List ℕ} → x ≡ y → getD x 0 0 ≡ getD y 0 0
+front e = ap (λ (l : List ℕ). getD l 0 0) e
 
-tail : List ℕ → List ℕ
-tail xs = drop 1 xs
+back : {x y : List ℕ} → x ≡ y → drop 1 x ≡ drop 1 y
+back e = ap (λ (l : List ℕ). drop 1 l) e
 
-one : (ks ns ms ds es : List ℕ) → Alike ks ns ms ds es → (ns ≡ ms) × (ds ≡ es)
-unfolding valuesIn numbersIn doublesIn head tail
-one [] ns ms ds es h = (h .more, h .more₂)
-one (k ∷ ks) ns ms ds es h = ?
+one-more : (ks : List ℕ) (t : Bool) (ns ms ds es : List ℕ) → One ks
+    → pick t (numbersIn ks) (suc (numbersIn ks)) ≤ length ns → pick t (numbersIn ks) (suc (numbersIn ks)) ≤ length ms
+    → pick t (suc (doublesIn ks)) (doublesIn ks) ≤ length ds → pick t (suc (doublesIn ks)) (doublesIn ks) ≤ length es
+    → pick t (getD ds 0 0 ∷ valuesIn ks ns (drop 1 ds)) (getD ns 0 0 ∷ valuesIn ks (drop 1 ns) ds) ≡ pick t (getD es 0 0 ∷ valuesIn ks ms (drop 1 es)) (getD ms 0 0 ∷ valuesIn ks (drop 1 ms) es)
+    → drop (pick t (numbersIn ks) (suc (numbersIn ks))) ns ≡ drop (pick t (numbersIn ks) (suc (numbersIn ks))) ms
+    → drop (pick t (suc (doublesIn ks)) (doublesIn ks)) ds ≡ drop (pick t (suc (doublesIn ks)) (doublesIn ks)) es
+    → (ns ≡ ms) × (ds ≡ es)
+one-more ks true ns ms [] es next a b c d v m w = absurd (omega arith)
+one-more ks true ns ms (x ∷ ds) [] next a b c d v m w = absurd (omega arith)
+one-more ks true ns ms (x ∷ ds) (y ∷ es) next a b c d v m w =
+    let r = next ns ms ds es a b (omega arith) (omega arith) (back v) m w in
+    (r .0, λ i. front v i ∷ r .1 i)
+one-more ks false [] ms ds es next a b c d v m w = absurd (omega arith)
+one-more ks false (x ∷ ns) [] ds es next a b c d v m w = absurd (omega arith)
+one-more ks false (x ∷ ns) (y ∷ ms) ds es next a b c d v m w =
+    let r = next ns ms ds es (omega arith) (omega arith) c d (back v) m w in
+    (λ i. front v i ∷ r .0 i, r .1)
+
+one : (ks : List ℕ) → One ks
+unfolding valuesIn numbersIn doublesIn
+one [] ns ms ds es a b c d v m w = (m, w)
+one (k ∷ ks) ns ms ds es a b c d v m w = one-more ks (isDouble k) ns ms ds es (one ks) a b c d v m w
+
+-- no question has more than 25 numbers or 24 doubles
+room : (asked : Asked) → (numbersIn (kindsOf asked) ≤ 25) × (doublesIn (kindsOf asked) ≤ 24)
+unfolding numbersIn doublesIn
+room Round = omega arith
+room Centre = omega arith
+room Meet = omega arith
+room Turn = omega arith
+room Step = omega arith
+room Cross = omega arith
+room Settle = omega arith
+room Direction = omega arith
+room Same = omega arith
+room Nearest = omega arith
+room Place = omega arith
+room Corners = omega arith
+room Hexagon = omega arith
+room Pentagon = omega arith
+room Help = omega arith
+room Unreadable = omega arith
+
+-- So an answer with its room of 25 numbers and 24 doubles that says a reply is the only one, doubles by their bits.
+pub one-answer : (asked : Asked) (r : Reply) {k l : ℕ} (ns ms ds es : List ℕ) → length ns ≡ 25 → length ms ≡ 25 → length ds ≡ 24 → length es ≡ 24
+    → Holds asked r k ns ds → Holds asked r l ms es → (k ≡ l) × (ns ≡ ms) × (ds ≡ es)
+one-answer asked r ns ms ds es a b c d g h =
+    let f = room asked in
+    let n = f .0 in
+    let x = f .1 in
+    let rest = one (kindsOf asked) ns ms ds es (omega arith) (omega arith) (omega arith) (omega arith) (g .values ∙ sym (h .values)) (g .other-numbers ∙ sym (h .other-numbers)) (g .other-doubles ∙ sym (h .other-doubles)) in
+    (g .number ∙ sym (h .number), rest .0, rest .1)
