@@ -1,160 +1,259 @@
 // Reads questions from standard input, a line each, to its end, and answers them in order on standard output, on the default frame.
+ghost use mathlib.Core.Path.{_≡_};
 ghost use Prim.Native.Nat.{_≤_};
 ghost use lib.ListN.{length};
+use libc::STDERR_FILENO;
 use libc::STDIN_FILENO;
 use libc::STDOUT_FILENO;
 
-fn say(text: &[u8]) {
-    io::write_all(STDOUT_FILENO, text);
+// What is kept while the input is read: so many bytes of a line and of answers, and whether all went well so far.
+struct Kept {
+    pub line: usize,
+    pub answers: usize,
+    pub good: bool,
+}
+
+fn say(text: &[u8]) -> bool {
+    io::write_all(STDOUT_FILENO, text)
 }
 
 // Each question with its form, an example line and what it answers: those on the plane and of faces.
-fn say_plane_help() {
-    say(b"round X Y -- round 0.5 -0.5 -- I J K: the coordinates that a plane point rounds to\n");
-    say(b"centre I J K -- centre 1 1 0 -- X Y: the plane point of coordinates\n");
-    say(
-        b"meet X Y X Y X Y X Y -- meet 0 0 2 2 0 2 2 0 -- X Y: the meeting of two lines, each through two points\n",
-    );
-    say(
-        b"direction FACE FACE -- direction 0 4 -- 0 the face itself, 1, 2, 3 over that edge, 7 any other\n",
-    );
-    say(
-        b"nearest X Y Z -- nearest 0 0 1 -- FACE D: the face nearest to a unit vector, and the squared distance\n",
-    );
+fn say_plane_help() -> bool {
+    say(b"round X Y -- round 0.5 -0.5 -- I J K: the coordinates that a plane point rounds to\n")
+        & say(b"centre I J K -- centre 1 1 0 -- X Y: the plane point of coordinates\n")
+        & say(
+            b"meet X Y X Y X Y X Y -- meet 0 0 2 2 0 2 2 0 -- X Y: the meeting of two lines, each through two points\n",
+        )
+        & say(
+            b"direction FACE FACE -- direction 0 4 -- 0 the face itself, 1, 2, 3 over that edge, 7 any other\n",
+        )
+        & say(
+            b"nearest X Y Z -- nearest 0 0 1 -- FACE D: the face nearest to a unit vector, and the squared distance\n",
+        )
 }
 
 // Those of places.
-fn say_place_help() {
+fn say_place_help() -> bool {
     say(
         b"turn FACE I J K ccw|cw -- turn 0 1 0 0 ccw -- FACE I J K: the place turned by 60 degrees\n",
-    );
-    say(
-        b"step FACE LEVEL p|s I J K EDGE -- step 0 0 p 3 0 0 2 -- FACE I J K: the place carried over an edge\n",
-    );
-    say(
-        b"cross FACE LEVEL p|s I J K yes|no -- cross 0 0 p 3 0 0 no -- FACE I J K None|FaceEdge|NewFace: one crossing\n",
-    );
-    say(
-        b"settle FACE LEVEL p|s I J K -- settle 0 0 p 3 0 0 -- FACE I J K STEPS: crossings until the place rests\n",
-    );
-    say(
-        b"same FACE I J K FACE I J K -- same 0 2 0 0 4 2 0 0 -- yes or no: whether two places are one corner\n",
-    );
-    say(b"place LEVEL X Y Z -- place 3 0 0 1 -- FACE I J K: the place of a unit vector\n");
+    )
+        & say(
+            b"step FACE LEVEL p|s I J K EDGE -- step 0 0 p 3 0 0 2 -- FACE I J K: the place carried over an edge\n",
+        )
+        & say(
+            b"cross FACE LEVEL p|s I J K yes|no -- cross 0 0 p 3 0 0 no -- FACE I J K None|FaceEdge|NewFace: one crossing\n",
+        )
+        & say(
+            b"settle FACE LEVEL p|s I J K -- settle 0 0 p 3 0 0 -- FACE I J K STEPS: crossings until the place rests\n",
+        )
+        & say(
+            b"same FACE I J K FACE I J K -- same 0 2 0 0 4 2 0 0 -- yes or no: whether two places are one corner\n",
+        )
+        & say(b"place LEVEL X Y Z -- place 3 0 0 1 -- FACE I J K: the place of a unit vector\n")
 }
 
 // Those of cells.
-fn say_cell_help() {
+fn say_cell_help() -> bool {
     say(
         b"corners FACE LEVEL I J K -- corners 0 0 1 0 0 -- LEVEL, then I J K of each of the six corners of a cell\n",
-    );
-    say(
-        b"hexagon FACE LEVEL I J K START LENGTH -- hexagon 0 1 1 0 0 0 6 -- COUNT, then FACE X Y corner|crossing of each point\n",
-    );
-    say(
-        b"pentagon FACE LEVEL I J K START LENGTH -- pentagon 0 1 6 0 2 0 5 -- COUNT, then FACE X Y corner|crossing of each point\n",
-    );
+    )
+        & say(
+            b"hexagon FACE LEVEL I J K START LENGTH -- hexagon 0 1 1 0 0 0 6 -- COUNT, then FACE X Y corner|crossing of each point\n",
+        )
+        & say(
+            b"pentagon FACE LEVEL I J K START LENGTH -- pentagon 0 1 6 0 2 0 5 -- COUNT, then FACE X Y corner|crossing of each point\n",
+        )
+        & say(b"help -- help -- these lines\n")
 }
 
-fn say_help() {
+// Why a line is refused.
+fn say_why() -> bool {
     say(
-        b"a number is decimal, below 2^32; a double (X, Y, Z) is the 16 hex digits of its bits, or an exact decimal of at most 15 digits such as 0.5\n",
-    );
-    say_plane_help();
-    say_place_help();
-    say_cell_help();
-    say(b"help -- help -- these lines\n");
-    say(
-        b"any question may be refused: refused NUMBER NAME; a line that is none of these is refused 14 BadLine\n",
-    );
+        b"any question may be refused: refused NUMBER NAME, and the README says what each number means\n",
+    )
+        & say(
+            b"a line is refused 14 BadLine if its first word is none of these, if a field is missing or one too many, or if two spaces stand together or one at either end\n",
+        )
+        & say(
+            b"a number is refused if it has a sign, a leading zero, a letter, or is 4294967296 or more\n",
+        )
+        & say(
+            b"a double (X, Y, Z) is the 16 hex digits of its bits, or a decimal such as 12, -0.5 or 0.1, which is rounded to the nearest double; it is refused if it has more than 15 digits, an exponent, a plus, a leading zero as 01 has, or no digit before or after its point\n",
+        )
+        & say(b"the words p, s, ccw, cw, yes and no are written just so\n")
 }
 
-fn say_answer(frame: &[f64], line: &[u8]) {
-    let mut answer = io::buffer();
-    let n = ask_write::reply_to(frame, line, &mut answer);
-    say(&answer[..n]);
-}
-
-fn answer_line(frame: &[f64], line: &[u8]) {
-    if ask_write::is_help(line) {
-        say_help();
-        return;
-    }
-    say_answer(frame, line);
-}
-
-// Ends a line of `used` bytes. A full buffer is a line longer than any good one, and is answered as an empty line is: 14.
-fn end_line(frame: &[f64], line: &[u8], used: usize)
-    requires { ⌜ used ≤ length (now line) ⌝ }
+// Something failed: it is said, and nothing more is read or answered, since a program cannot set its exit status.
+fn failed(complaint: &[u8]) -> Kept
+    ensures { λ r. ⌜ (r .line ≡ 0) × (r .answers ≡ 0) ⌝ }
 {
-    if used == line.len() {
-        answer_line(frame, b"");
-        return;
+    io::write_all(STDERR_FILENO, complaint);
+    Kept {
+        line: 0,
+        answers: 0,
+        good: false,
     }
-    answer_line(frame, &line[..used]);
 }
 
-// Takes a byte of the input and answers how many bytes of its line are kept: past the buffer's end none is.
-fn take_byte(frame: &[f64], line: &mut [u8], used: usize, b: u8) -> usize
-    requires { ⌜ used ≤ length (now line) ⌝ }
-    ensures { λ r. ⌜ r ≤ length (now (line .entry)) ⌝ }
+// Writes the answers that are kept.
+fn hand_over(answers: &[u8], k: Kept) -> Kept
+    requires { ⌜ k .answers ≤ length (now answers) ⌝ }
+    ensures { λ r. ⌜ (r .line ≤ k .line) × (r .answers ≡ 0) ⌝ }
 {
-    if b == b'\n' {
-        end_line(frame, line, used);
-        return 0;
+    let n = k.answers;
+    if !k.good {
+        return Kept {
+            line: 0,
+            answers: 0,
+            good: false,
+        };
     }
-    if used < line.len() {
-        line[used] = b;
-        return used + 1;
+    if !say(&answers[..n]) {
+        return failed(b"ask: the answers could not be written\n");
     }
-    used
+    Kept {
+        line: k.line,
+        answers: 0,
+        good: true,
+    }
 }
 
-fn take_bytes(frame: &[f64], line: &mut [u8], used: usize, bytes: &[u8]) -> usize
-    requires { ⌜ used ≤ length (now line) ⌝ }
-    ensures { λ r. ⌜ r ≤ length (now (line .entry)) ⌝ }
+// What is kept where the buffer has room for any answer: what may leave too little is written first.
+fn with_room(answers: &[u8], k: Kept) -> Kept
+    requires { ⌜ k .answers ≤ length (now answers) ⌝ }
+    ensures { λ r. ⌜ r .answers ≤ length (now (answers .entry)) ⌝ }
 {
-    let mut kept = used;
+    if answers.len() - k.answers < ask_write::LONGEST {
+        return hand_over(answers, k);
+    }
+    k
+}
+
+// The help has no answer's line: it is said at once, after what is kept.
+fn help(answers: &[u8], k: Kept) -> Kept
+    requires { ⌜ k .answers ≤ length (now answers) ⌝ }
+    ensures { λ r. ⌜ (r .line ≡ 0) × (r .answers ≡ 0) ⌝ }
+{
+    let kept = hand_over(answers, k);
+    if kept.good & !(say_plane_help() & say_place_help() & say_cell_help() & say_why()) {
+        return failed(b"ask: the help could not be written\n");
+    }
+    Kept {
+        line: 0,
+        answers: 0,
+        good: kept.good,
+    }
+}
+
+// Answers a line into the buffer.
+fn answer(frame: &[f64], line: &[u8], answers: &mut [u8], k: Kept) -> Kept
+    requires { ⌜ k .answers ≤ length (now answers) ⌝ }
+    ensures { λ r. ⌜ (r .line ≡ 0) × (r .answers ≤ length (now (answers .entry))) ⌝ }
+{
+    let kept = with_room(answers, k);
+    let at = kept.answers;
+    let n = ask_write::reply_to(frame, line, &mut answers[at..]);
+    if n == 0 {
+        return help(answers, kept);
+    }
+    Kept {
+        line: 0,
+        answers: at + n,
+        good: kept.good,
+    }
+}
+
+// Keeps bytes of a line, as many as the buffer holds: a line that fills it is longer than any good one.
+fn keep(line: &mut [u8], k: Kept, bytes: &[u8]) -> Kept
+    requires { ⌜ k .line ≤ length (now line) ⌝ }
+    ensures { λ r. ⌜ (r .line ≤ length (now (line .entry))) × (r .answers ≡ k .answers) ⌝ }
+{
+    let mut n = k.line;
     let mut i = 0;
-    while i < bytes.len() {
-        kept = take_byte(frame, line, kept, bytes[i]);
+    while (i < bytes.len()) & (n < line.len()) {
+        line[n] = bytes[i];
+        n += 1;
         i += 1;
+    }
+    Kept {
+        line: n,
+        answers: k.answers,
+        good: k.good,
+    }
+}
+
+// Takes the last bytes of a line, up to its newline, of which a carriage return is a part.
+fn end_line(frame: &[f64], line: &mut [u8], bytes: &[u8], answers: &mut [u8], k: Kept) -> Kept
+    requires { ⌜ (k .line ≤ length (now line)) × (k .answers ≤ length (now answers)) ⌝ }
+    ensures { λ r. ⌜ (r .line ≡ 0) × (r .answers ≤ length (now (answers .entry))) ⌝ }
+{
+    if k.line == 0 {
+        let n = ask_read::without_return(bytes);
+        return answer(frame, &bytes[..n], answers, k);
+    }
+    let kept = keep(line, k, bytes);
+    let all = kept.line;
+    let n = ask_read::without_return(&line[..all]);
+    answer(frame, &line[..n], answers, kept)
+}
+
+fn take_bytes(frame: &[f64], line: &mut [u8], bytes: &[u8], answers: &mut [u8], k: Kept) -> Kept
+    requires { ⌜ (k .line ≤ length (now line)) × (k .answers ≤ length (now answers)) ⌝ }
+    ensures { λ r. ⌜ (r .line ≤ length (now (line .entry))) × (r .answers ≤ length (now (answers .entry))) ⌝ }
+{
+    let len = bytes.len();
+    let mut kept = k;
+    let mut i = 0;
+    while (i < len) & kept.good {
+        let end = bytes::scan::find(bytes, i, len, b'\n');
+        if end == len {
+            return keep(line, kept, &bytes[i..]);
+        }
+        kept = end_line(frame, line, &bytes[i..end], answers, kept);
+        i = end + 1;
     }
     kept
 }
 
-// Reads once; 0 at the end of the input, and where reading fails.
-fn read_some(buffer: &mut [u8]) -> usize
-    ensures { λ r. ⌜ r ≤ length (now (buffer .exit)) ⌝ }
+// Takes the whole input, and writes its answers before more is read, so that a person sees them at once. A proved loop has to end and no input has to, so the turns are counted down from a number that no run uses up.
+fn take_all(frame: &[f64], line: &mut [u8], bytes: &mut [u8], answers: &mut [u8]) -> Kept
+    ensures { λ r. ⌜ (r .line ≤ length (now (line .entry))) × (r .answers ≡ 0) ⌝ }
 {
-    let got = libc::read(STDIN_FILENO, buffer);
-    io::count(got, buffer)
-}
-
-// Takes the whole input. A proved loop has to end and no input has to, so the turns are counted down from a number that no run uses up.
-fn take_all(frame: &[f64], line: &mut [u8], buffer: &mut [u8]) -> usize
-    ensures { λ r. ⌜ r ≤ length (now (line .entry)) ⌝ }
-{
-    let mut used = 0;
+    let mut kept = Kept {
+        line: 0,
+        answers: 0,
+        good: true,
+    };
     let mut turns = u64::MAX;
     while turns > 0 {
-        let n = read_some(buffer);
+        let got = libc::read(STDIN_FILENO, bytes);
+        if got < 0 {
+            return failed(b"ask: the input could not be read\n");
+        }
+        let n = io::count(got, bytes);
         if n == 0 {
             break;
         }
-        used = take_bytes(frame, line, used, &buffer[..n]);
+        let taken = take_bytes(frame, line, &bytes[..n], answers, kept);
+        kept = hand_over(answers, taken);
+        if !kept.good {
+            break;
+        }
         turns -= 1;
     }
-    used
+    kept
 }
 
 // What follows the last newline is a line too, unless nothing does.
 fn main() {
     let frame = frame::default_frame();
     let mut line = [0u8; 512];
-    let mut buffer = io::large_buffer();
-    let used = take_all(&frame, &mut line, &mut buffer);
-    if used > 0 {
-        end_line(&frame, &line, used);
+    let mut bytes = io::large_buffer();
+    let mut answers = io::large_buffer();
+    let kept = take_all(&frame, &mut line, &mut bytes, &mut answers);
+    let n = kept.line;
+    if n > 0 {
+        let last = answer(&frame, &line[..n], &mut answers, kept);
+        hand_over(&answers, last);
     }
 }
