@@ -33,8 +33,3 @@ Agree (e ∷ es) = (answerText (e .asked) (e .reply) ≡ text (e .line) ++ newli
 pub worked : Agree examples
 unfolding answerText valuesText textTo fieldText valueText refusedText hex nameOf overageText agreedText markText decimal digitsTo field
 worked = (refl, (refl, (refl, (refl, (refl, (refl, (refl, tt)))))))
-
--- the help has no line
-pub help-silent : answerText Asked.Help (answer []) ≡ []
-unfolding answerText valuesText
-help-silent = refl
