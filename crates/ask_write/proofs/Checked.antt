@@ -1,7 +1,6 @@
 -- Lines that were worked out by hand: each is what the definition gives. Assumes nothing.
 use mathlib.Core.Path.{_≡_, refl}
 use mathlib.Core.List.{List, [], _∷_, _++_}
-use Prim.Native.Nat.{ℕ}
 use Prim.Native.String.{String}
 use Rattle.reply.specs.Text.{text}
 use Rattle.reply.specs.declared.Refusal.the-variants.{TooFar, BadLine}
