@@ -1,7 +1,6 @@
 -- Lines that were worked out by hand: each is what the definition gives. Assumes nothing.
 use mathlib.Core.Path.{_≡_, refl}
 use mathlib.Core.List.{List, [], _∷_, _++_}
-use Prim.Native.Nat.{ℕ}
 use Prim.Native.String.{String}
 use Rattle.reply.specs.Text.{text}
 use Rattle.reply.specs.declared.Refusal.the-variants.{TooFar, BadLine}
@@ -33,8 +32,3 @@ Agree (e ∷ es) = (answerText (e .asked) (e .reply) ≡ text (e .line) ++ newli
 pub worked : Agree examples
 unfolding answerText valuesText textTo fieldText valueText refusedText hex nameOf overageText agreedText markText decimal digitsTo field
 worked = (refl, (refl, (refl, (refl, (refl, (refl, (refl, tt)))))))
-
--- the help has no line
-pub help-silent : answerText Asked.Help (answer []) ≡ []
-unfolding answerText valuesText
-help-silent = refl

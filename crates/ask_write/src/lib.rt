@@ -1,11 +1,9 @@
 // The desk tool's answer to one line: the question read, its entry asked, and the answer written as a line, whole into a lent buffer or not at all.
 ghost use mathlib.Core.Path.{_≡_};
-ghost use mathlib.Core.List.{[], _∷_, _++_};
 ghost use Prim.Native.Nat.{_+_, _*_, _≤_, _<_, min};
 ghost use lib.Ieee.{binary64, toBits};
 ghost use lib.ListN.{length, getD};
 ghost use Rattle.reply.specs.Choice.{pick};
-ghost use Rattle.text.specs.Numbers.{newline};
 ghost use Rattle.text.specs.Writing.{PutAt, Wrote};
 ghost use Rattle.lent.specs.Lent.{bitsOf};
 ghost use Rattle.ask_answer.specs.Answers.{kindsOf, valuesIn, saidAnswer};

@@ -45,12 +45,9 @@ from-start {x} {old} {new} {r} p h =
     let e : 0 + length x ≡ length x = omega arith in
     p .bytes ∙ (sets-eq x old 0 (omega arith) ∙ ap (λ (n : ℕ). x ++ drop n old) e)
 
--- the three ways in which writing ends: a buffer that is too short, nothing to write, a whole line
+-- the two ways in which writing ends: a buffer that is too short, a whole line
 pub left-alone : (longest : ℕ) (x old : List ℕ) → length old < longest → Wrote longest x old old 0
 left-alone longest x old h = record { count = rw (lt-ltb (length old) longest h); bytes = rw (lt-ltb (length old) longest h) }
-
-pub nothing-said : (longest : ℕ) (x old : List ℕ) → longest ≤ length old → x ≡ [] → Wrote longest x old old 0
-nothing-said longest x old h e = record { count = rw (le-ltb (length old) longest h, e); bytes = rw (le-ltb (length old) longest h, e) }
 
 pub wrote-line : (longest : ℕ) {x old new : List ℕ} {r : ℕ} → longest ≤ length old → length x ≤ longest → PutAt x old new 0 r → Wrote longest x old new r
 wrote-line longest {x} {old} {new} {r} h l p =

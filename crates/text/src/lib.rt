@@ -1,4 +1,4 @@
-// Bytes, words and numbers put into a lent buffer at an index: each answers the index after. All that is printed as a line stands on them.
+// Bytes, words and numbers put into a lent buffer at an index: each answers the index after. The lines of `walk` and `ask` stand on them.
 ghost use mathlib.Core.List.{[], _∷_};
 ghost use Prim.Native.Nat.{_+_, _≤_, _<_};
 ghost use lib.ListN.{length};
