@@ -237,6 +237,6 @@ pub extern "C" fn heddleplume_frame(out: &mut [f64]) -> u32
         return Refusal::BadRows.number();
     }
     let frame = frame::default_frame();
-    lent::put_all(out, &frame);
+    lent::put_doubles(out, 0, &frame);
     0
 }
