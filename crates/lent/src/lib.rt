@@ -20,10 +20,10 @@ pub fn put_doubles(out: &mut [f64], at: usize, from: &[f64])
     requires { ⌜ at + length (now from) ≤ length (now out) ⌝ }
     ensures { λ _. ⌜ now (out .exit) ≡ stored (now (out .entry)) at (now (from .entry)) ⌝ }
 {
-    let mut n = 0usize;
-    while n < from.len() {
-        out[at + n] = from[n];
-        n += 1;
+    let mut d = 0usize;
+    while d < from.len() {
+        out[at + d] = from[d];
+        d += 1;
     }
 }
 
@@ -31,9 +31,9 @@ pub fn put_wide(out: &mut [u64], at: usize, from: &[u64])
     requires { ⌜ at + length (now from) ≤ length (now out) ⌝ }
     ensures { λ _. ⌜ now (out .exit) ≡ stored (now (out .entry)) at (now (from .entry)) ⌝ }
 {
-    let mut n = 0usize;
-    while n < from.len() {
-        out[at + n] = from[n];
-        n += 1;
+    let mut w = 0usize;
+    while w < from.len() {
+        out[at + w] = from[w];
+        w += 1;
     }
 }

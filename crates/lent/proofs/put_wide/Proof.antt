@@ -1,4 +1,4 @@
--- `put_wide` meets its contract: the loop has copied the first n values. Assumes nothing.
+-- `put_wide` meets its contract: the loop has copied the first w values. Assumes nothing.
 use borrow.Author.Needs.{needs}
 use mathlib.Core.Path.{_≡_, refl}
 use Prim.Native.Nat.{_-_, _≤_}
@@ -10,10 +10,10 @@ use Rattle.lent.proofs.put_wide.Statement.{statement}
 use Rattle.lent.proofs.put_wide.Tie as tie
 
 abbrev Inv-loop : tie.InvT-loop
-Inv-loop out₀ at from n₀ out n = (n ≤ length from) × (length out ≡ length out₀) × (out ≡ paste out₀ at from n)
+Inv-loop out₀ at from w₀ out w = (w ≤ length from) × (length out ≡ length out₀) × (out ≡ paste out₀ at from w)
 
 abbrev μ-loop : tie.MeasureT-loop
-μ-loop out₀ at from n₀ out n = length from - n
+μ-loop out₀ at from w₀ out w = length from - w
 
 loop-holds : tie.Need-loop-holds Inv-loop μ-loop
 loop-holds c =
@@ -26,14 +26,14 @@ loop-again c =
     let a = c .before .before .before .args in (
       omega arith,
       simp length-set (loop .inv .1),
-      one-more _ (a .out .now) (a .from .now) (loop .out) (a .at) (loop .n) (c .before .before .before .pre) (c .before .loop-test .taken) (loop .inv .2),
+      one-more _ (a .out .now) (a .from .now) (loop .out) (a .at) (loop .w) (c .before .before .before .pre) (c .before .loop-test .taken) (loop .inv .2),
     )
 
 returns : tie.Need-returns Inv-loop μ-loop
 returns c =
     let loop = c .before .loop in
     let a = c .before .before .args in
-    all-copied (a .out .now) (a .from .now) (loop .out) (a .at) (loop .n) (omega arith) (loop .inv .2)
+    all-copied (a .out .now) (a .from .now) (loop .out) (a .at) (loop .w) (omega arith) (loop .inv .2)
 
 pub put-wide-spec : {M : Type 1} → statement M
 put-wide-spec =
