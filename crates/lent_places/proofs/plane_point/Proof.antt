@@ -1,5 +1,6 @@
 -- `plane_point` meets its contract: it says what the projection says. Assumes nothing.
 use borrow.Author.Needs.{needs}
+use native.Mathlib.Omega.{arith}
 use mathlib.Core.List.{[], _∷_}
 use mathlib.Core.Path.{sym, ap, _∙_}
 use Rattle.vec2d.specs.Points.{saidPointed}
@@ -9,7 +10,7 @@ use Rattle.lent_places.proofs.plane_point.Statement.{statement}
 use Rattle.lent_places.proofs.plane_point.Tie as tie
 
 returns : tie.Need-returns
-returns c = short-framed-doubles _ 2 (c .before .before .before .before .args .out .now) _ _ (c .before .if1 .taken) (c .frame-or-rows .ensures)
+returns c = short-framed-doubles _ 2 (c .before .before .before .before .args .out .now) _ _ (omega arith) (c .frame-or-rows .ensures)
 
 returns-2 : tie.Need-returns-2
 returns-2 c =
