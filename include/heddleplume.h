@@ -18,9 +18,13 @@
  *   writes memory that another uses.
  *
  * A place is a face 0..19 and coordinates i, j, k. The least of the three is 0 and none is above 2^26, in what is passed (otherwise 10)
- * and in what is answered; only the answers of heddleplume_step, of heddleplume_cross with the turn, and of heddleplume_corners may be
- * above 2^26, and other functions then refuse them with 10.
+ * and in what is answered; only the answers of heddleplume_step, of heddleplume_cross with the turn, of heddleplume_corners, of
+ * heddleplume_reduce and of heddleplume_map may be above 2^26, and other functions then refuse them with 10.
  * A cell level is 0..15. A grid level is even, 0..16: an odd cell level is raised by one.
+ *
+ * Every entry of the library that answers a question is a function here. Left out, since a caller loses nothing: the tests alone (each
+ * function tests what it is given), the constructors and the dot product, the form of settling that changes a lent place, and the texts
+ * of `walk` and `ask`.
  */
 #ifndef HEDDLEPLUME_H
 #define HEDDLEPLUME_H
@@ -42,14 +46,15 @@ enum heddleplume_refusal {
     HEDDLEPLUME_BAD_ROWS = 2,      /* a wrong length, or the rows do not fit: lend the lengths stated */
     HEDDLEPLUME_BAD_FACE = 3,      /* a face above 19 */
     HEDDLEPLUME_BAD_LEVEL = 4,     /* a cell level above 15; a grid level that is odd or above 16 */
-    HEDDLEPLUME_BAD_RANGE = 5,     /* an edge not 1..3, or a start or length of a border out of range */
+    HEDDLEPLUME_BAD_RANGE = 5,     /* an edge not 1..3, a map not 1..5, or a start or length of a border out of range */
     HEDDLEPLUME_BAD_NUMBER = 6,    /* a NaN or an infinity: the receiver has no fix, do not switch its feed */
     HEDDLEPLUME_OFF_SPHERE = 7,    /* the vector's length is not 1: divide the vector by its length first */
     HEDDLEPLUME_BEHIND = 8,        /* the vector lies behind the face's plane: the frame is no icosahedron */
     HEDDLEPLUME_TOO_FAR = 9,       /* a plane point with a part of 2^25 or more: the point lies on no face */
     HEDDLEPLUME_NOT_REDUCED = 10,  /* no coordinate is 0, or one is above 2^26: subtract the least from all three */
     HEDDLEPLUME_OUT_OF_FACE = 11,  /* a border's centre lies outside its face: cross or settle it first */
-    HEDDLEPLUME_NOT_ADJACENT = 12, /* a border runs over faces that are no neighbours: the centre is no pentagon's */
+    HEDDLEPLUME_NOT_ADJACENT = 12, /* a border runs over faces that are not neighbours: the centre is no pentagon's, or the pentagon is
+                                      named on a face where it lies on the j or k axis: name it where it lies on the i axis */
     HEDDLEPLUME_NO_CROSSING = 13,  /* two lines do not meet */
     HEDDLEPLUME_BAD_LINE = 14      /* a malformed line of text; no function of this header gives it */
 };
@@ -62,12 +67,22 @@ enum heddleplume_length {
     HEDDLEPLUME_LINES_LEN = 8,    /* doubles: x y of from and to, of the first line and then of the second */
     HEDDLEPLUME_POINT_LEN = 2,    /* doubles: x y */
     HEDDLEPLUME_COORD_LEN = 3,    /* numbers: i j k */
+    HEDDLEPLUME_GRID_LEN = 3,     /* numbers: unit scale, limit, 1 for a substrate grid or 0 */
     HEDDLEPLUME_PLACE_LEN = 4,    /* numbers: face i j k */
     HEDDLEPLUME_CROSS_LEN = 5,    /* numbers: face i j k, and an enum heddleplume_overage */
     HEDDLEPLUME_SETTLE_LEN = 5,   /* numbers: face i j k, and the number of steps */
     HEDDLEPLUME_CORNERS_LEN = 19, /* numbers: the grid level, then i j k six times */
     HEDDLEPLUME_MARKS_LEN = 25,   /* numbers: the count, then face and mark twelve times */
     HEDDLEPLUME_POINTS_LEN = 24   /* doubles: x y twelve times */
+};
+
+/* The maps that heddleplume_map takes. */
+enum heddleplume_map {
+    HEDDLEPLUME_MAP_SIXTH_TURN_CCW = 1,
+    HEDDLEPLUME_MAP_SIXTH_TURN_CW = 2,
+    HEDDLEPLUME_MAP_APERTURE_3_CCW = 3,
+    HEDDLEPLUME_MAP_APERTURE_3_CW = 4,
+    HEDDLEPLUME_MAP_APERTURE_7_CW = 5
 };
 
 /* How a crossing ended. */
@@ -109,6 +124,13 @@ uint32_t heddleplume_nearest(const double *frame, size_t frame_len, double x, do
                              double *distance, size_t distance_len);
 
 /*
+ * The plane point of a unit vector on a face that the caller names, at a cell level.
+ * Writes out[0..1]: x y. Refusals: 1, 2, 3, 4, 6, 7, 8.
+ */
+uint32_t heddleplume_plane_point(const double *frame, size_t frame_len, uint32_t face, uint32_t level, double x, double y, double z,
+                                 double *out, size_t out_len);
+
+/*
  * The place of a unit vector at a cell level.
  * Writes out[0..3]: face i j k. Refusals: 1, 2, 4, 6, 7, 8.
  */
@@ -124,6 +146,32 @@ uint32_t heddleplume_place(const double *frame, size_t frame_len, double x, doub
  */
 uint32_t heddleplume_batch(const double *frame, size_t frame_len, uint32_t level, const double *input, size_t input_len, int32_t *out,
                            size_t out_len, size_t first, uint64_t *refused, size_t refused_len);
+
+/* ---- Levels and coordinates ---- */
+
+/*
+ * A cell level to its grid level.
+ * Writes out[0]. Refusals: 2, 4.
+ */
+uint32_t heddleplume_raise(uint32_t level, uint32_t *out, size_t out_len);
+
+/*
+ * The grid of a face at a grid level: its unit scale, and the limit of i + j + k on the face.
+ * Writes out[0..2]: unit scale, limit, and 1 for a substrate grid, 0 for a plain one. Refusals: 2, 4.
+ */
+uint32_t heddleplume_grid(uint32_t level, bool substrate, uint32_t *out, size_t out_len);
+
+/*
+ * The least of three coordinates taken from all three. Any three are taken, those above 2^26 too.
+ * Writes out[0..2]: i j k. Refusals: 2.
+ */
+uint32_t heddleplume_reduce(uint32_t i, uint32_t j, uint32_t k, uint32_t *out, size_t out_len);
+
+/*
+ * Coordinates under one of the five maps of the grid, an enum heddleplume_map. The apertures' answers may be above 2^26.
+ * Writes out[0..2]: i j k. Refusals: 2, 5, 10.
+ */
+uint32_t heddleplume_map(uint32_t map, uint32_t i, uint32_t j, uint32_t k, uint32_t *out, size_t out_len);
 
 /* ---- On the plane of a face ---- */
 
@@ -144,6 +192,12 @@ uint32_t heddleplume_centre(uint32_t i, uint32_t j, uint32_t k, double *out, siz
  * Writes out[0..1]: x y. Refusals: 2 (also if lines_len is not 8, longer too), 6, 13.
  */
 uint32_t heddleplume_meet(const double *lines, size_t lines_len, double *out, size_t out_len);
+
+/*
+ * Whether two points are equal within the tolerance of borders: both parts differ by at most 2^-23.
+ * Writes out[0]: 1 yes, 0 no. Refusals: 2, 6.
+ */
+uint32_t heddleplume_alike(double x, double y, double other_x, double other_y, uint32_t *out, size_t out_len);
 
 /* ---- From face to face ---- */
 

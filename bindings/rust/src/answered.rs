@@ -16,6 +16,15 @@ pub fn unheard_of(what: &str, number: u32) -> ! {
     panic!("libheddleplume.a gave {number} as {what}: it is of another version than this crate")
 }
 
+/// A value that is 1 for yes and 0 for no.
+pub fn yes_or_no(number: u32) -> bool {
+    match number {
+        0 => false,
+        1 => true,
+        _ => unheard_of("yes or no", number),
+    }
+}
+
 #[cfg(test)]
 mod tests {
     use super::*;

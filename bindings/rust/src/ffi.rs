@@ -9,11 +9,17 @@ mod c {
     unsafe extern "C" {
         pub fn heddleplume_frame(out: *mut f64, out_len: usize) -> u32;
         pub fn heddleplume_nearest(frame: *const f64, frame_len: usize, x: f64, y: f64, z: f64, face: *mut u32, face_len: usize, distance: *mut f64, distance_len: usize) -> u32;
+        pub fn heddleplume_plane_point(frame: *const f64, frame_len: usize, face: u32, level: u32, x: f64, y: f64, z: f64, out: *mut f64, out_len: usize) -> u32;
         pub fn heddleplume_place(frame: *const f64, frame_len: usize, x: f64, y: f64, z: f64, level: u32, out: *mut u32, out_len: usize) -> u32;
         pub fn heddleplume_batch(frame: *const f64, frame_len: usize, level: u32, input: *const f64, input_len: usize, out: *mut i32, out_len: usize, first: usize, refused: *mut u64, refused_len: usize) -> u32;
+        pub fn heddleplume_raise(level: u32, out: *mut u32, out_len: usize) -> u32;
+        pub fn heddleplume_grid(level: u32, substrate: bool, out: *mut u32, out_len: usize) -> u32;
+        pub fn heddleplume_reduce(i: u32, j: u32, k: u32, out: *mut u32, out_len: usize) -> u32;
+        pub fn heddleplume_map(map: u32, i: u32, j: u32, k: u32, out: *mut u32, out_len: usize) -> u32;
         pub fn heddleplume_round(x: f64, y: f64, out: *mut u32, out_len: usize) -> u32;
         pub fn heddleplume_centre(i: u32, j: u32, k: u32, out: *mut f64, out_len: usize) -> u32;
         pub fn heddleplume_meet(lines: *const f64, lines_len: usize, out: *mut f64, out_len: usize) -> u32;
+        pub fn heddleplume_alike(x: f64, y: f64, other_x: f64, other_y: f64, out: *mut u32, out_len: usize) -> u32;
         pub fn heddleplume_direction(from: u32, to: u32, out: *mut u32, out_len: usize) -> u32;
         pub fn heddleplume_turn(face: u32, i: u32, j: u32, k: u32, clockwise: bool, out: *mut u32, out_len: usize) -> u32;
         pub fn heddleplume_step(face: u32, i: u32, j: u32, k: u32, level: u32, substrate: bool, edge: u32, out: *mut u32, out_len: usize) -> u32;
@@ -40,6 +46,11 @@ pub fn nearest(frame: &[f64], [x, y, z]: [f64; 3], face: &mut [u32], distance: &
     unsafe { c::heddleplume_nearest(frame.as_ptr(), frame.len(), x, y, z, face.as_mut_ptr(), faces, distance.as_mut_ptr(), distances) }
 }
 
+pub fn plane_point(frame: &[f64], face: u32, level: u32, [x, y, z]: [f64; 3], out: &mut [f64]) -> u32 {
+    // SAFETY: two slices, each with its own length.
+    unsafe { c::heddleplume_plane_point(frame.as_ptr(), frame.len(), face, level, x, y, z, out.as_mut_ptr(), out.len()) }
+}
+
 pub fn place(frame: &[f64], [x, y, z]: [f64; 3], level: u32, out: &mut [u32]) -> u32 {
     // SAFETY: two slices, each with its own length.
     unsafe { c::heddleplume_place(frame.as_ptr(), frame.len(), x, y, z, level, out.as_mut_ptr(), out.len()) }
@@ -52,6 +63,26 @@ pub fn batch(frame: &[f64], level: u32, input: &[f64], out: &mut [i32], first: u
     unsafe {
         c::heddleplume_batch(frame, frames, level, input.as_ptr(), input.len(), out, outs, first, refused.as_mut_ptr(), refused.len())
     }
+}
+
+pub fn raise(level: u32, out: &mut [u32]) -> u32 {
+    // SAFETY: a slice with its own length.
+    unsafe { c::heddleplume_raise(level, out.as_mut_ptr(), out.len()) }
+}
+
+pub fn grid(level: u32, substrate: bool, out: &mut [u32]) -> u32 {
+    // SAFETY: a slice with its own length.
+    unsafe { c::heddleplume_grid(level, substrate, out.as_mut_ptr(), out.len()) }
+}
+
+pub fn reduce([i, j, k]: [u32; 3], out: &mut [u32]) -> u32 {
+    // SAFETY: a slice with its own length.
+    unsafe { c::heddleplume_reduce(i, j, k, out.as_mut_ptr(), out.len()) }
+}
+
+pub fn map(map: u32, [i, j, k]: [u32; 3], out: &mut [u32]) -> u32 {
+    // SAFETY: a slice with its own length.
+    unsafe { c::heddleplume_map(map, i, j, k, out.as_mut_ptr(), out.len()) }
 }
 
 pub fn round(x: f64, y: f64, out: &mut [u32]) -> u32 {
@@ -67,6 +98,11 @@ pub fn centre([i, j, k]: [u32; 3], out: &mut [f64]) -> u32 {
 pub fn meet(lines: &[f64], out: &mut [f64]) -> u32 {
     // SAFETY: two slices, each with its own length.
     unsafe { c::heddleplume_meet(lines.as_ptr(), lines.len(), out.as_mut_ptr(), out.len()) }
+}
+
+pub fn alike([x, y]: [f64; 2], [x2, y2]: [f64; 2], out: &mut [u32]) -> u32 {
+    // SAFETY: a slice with its own length.
+    unsafe { c::heddleplume_alike(x, y, x2, y2, out.as_mut_ptr(), out.len()) }
 }
 
 pub fn direction(from: u32, to: u32, out: &mut [u32]) -> u32 {

@@ -34,8 +34,8 @@ mod refusal;
 mod sphere;
 
 pub use borders::{Boundary, BoundaryPoint, Corners, Mark};
-pub use levels::{CellLevel, Grid, GridLevel};
+pub use levels::{CellLevel, Grid, GridLevel, Sizes};
 pub use places::{Direction, FaceIJK, Landed, Overage, Rested, face_direction};
-pub use plane::{CoordIJK, Vec2d};
+pub use plane::{CoordIJK, GridMap, Vec2d};
 pub use refusal::Refusal;
-pub use sphere::{Frame, Vec3d, locate, locate_all, locate_each, read_row};
+pub use sphere::{Frame, Vec3d, locate, locate_all, locate_each, plane_point, read_row};

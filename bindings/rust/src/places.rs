@@ -1,5 +1,5 @@
 //! Places, and how they are named from one face and from another.
-use crate::answered::{answered, unheard_of};
+use crate::answered::{answered, unheard_of, yes_or_no};
 use crate::{CoordIJK, Grid, GridLevel, Refusal, ffi};
 
 /// A place: a face 0..19 and coordinates on it.
@@ -155,10 +155,6 @@ impl FaceIJK {
     pub fn same_corner(self, other: FaceIJK) -> Result<bool, Refusal> {
         let mut out = [0];
         answered(ffi::same_corner(self.into(), other.into(), &mut out))?;
-        match out[0] {
-            0 => Ok(false),
-            1 => Ok(true),
-            number => unheard_of("yes or no", number),
-        }
+        Ok(yes_or_no(out[0]))
     }
 }

@@ -1,5 +1,5 @@
 //! Points and hexagons on the plane of a face.
-use crate::answered::answered;
+use crate::answered::{answered, yes_or_no};
 use crate::{Refusal, ffi};
 
 /// Coordinates of a hexagon on its face. Reduced means that the least is 0.
@@ -19,11 +19,48 @@ impl CoordIJK {
         CoordIJK { i, j, k }
     }
 
+    /// The least of the three taken from all three; any three are taken.
+    pub fn reduce(self) -> CoordIJK {
+        let mut out = [0; 3];
+        answered(ffi::reduce([self.i, self.j, self.k], &mut out)).expect("any three are taken");
+        CoordIJK::new(out[0], out[1], out[2])
+    }
+
+    /// The coordinates under a map of the grid. Refusals: 10.
+    pub fn map(self, map: GridMap) -> Result<CoordIJK, Refusal> {
+        let mut out = [0; 3];
+        answered(ffi::map(map.number(), [self.i, self.j, self.k], &mut out))?;
+        Ok(CoordIJK::new(out[0], out[1], out[2]))
+    }
+
     /// The centre of the hexagon. Refusals: 10.
     pub fn centre(self) -> Result<Vec2d, Refusal> {
         let mut out = [0.0; 2];
         answered(ffi::centre([self.i, self.j, self.k], &mut out))?;
         Ok(Vec2d::new(out[0], out[1]))
+    }
+}
+
+/// The five maps of the grid: turns, and steps to a finer grid.
+#[derive(Clone, Copy, Debug, PartialEq, Eq, Hash)]
+#[repr(u32)]
+pub enum GridMap {
+    /// A sixth of a turn, counterclockwise.
+    SixthTurnCcw = 1,
+    /// A sixth of a turn, clockwise.
+    SixthTurnCw = 2,
+    /// To the grid of a third of the area, counterclockwise.
+    Aperture3Ccw = 3,
+    /// The same, clockwise.
+    Aperture3Cw = 4,
+    /// To the grid of a seventh of the area, clockwise.
+    Aperture7Cw = 5,
+}
+
+impl GridMap {
+    /// Its number, 1..5.
+    pub const fn number(self) -> u32 {
+        self as u32
     }
 }
 
@@ -56,6 +93,13 @@ impl Vec2d {
         let mut out = [0; 3];
         answered(ffi::round(self.x, self.y, &mut out))?;
         Ok(CoordIJK::new(out[0], out[1], out[2]))
+    }
+
+    /// Whether both parts of the two points differ by at most 2^-23, the tolerance of borders. Refusals: 6.
+    pub fn alike(self, other: Vec2d) -> Result<bool, Refusal> {
+        let mut out = [0];
+        answered(ffi::alike([self.x, self.y], [other.x, other.y], &mut out))?;
+        Ok(yes_or_no(out[0]))
     }
 
     /// Where two lines meet, which may lie beyond their ends. Refusals: 6, 13.

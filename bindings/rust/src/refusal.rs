@@ -28,7 +28,7 @@ pub enum Refusal {
     NotReduced = 10,
     /// A border's centre lies outside its face.
     OutOfFace = 11,
-    /// A border runs over faces that are no neighbours.
+    /// A border runs over faces that are not neighbours.
     NotAdjacent = 12,
     /// Two lines do not meet.
     NoCrossing = 13,
@@ -79,7 +79,7 @@ impl Refusal {
             Refusal::TooFar => "the point lies on no face, check where it comes from",
             Refusal::NotReduced => "subtract the least coordinate from all three first",
             Refusal::OutOfFace => "cross or settle the centre first",
-            Refusal::NotAdjacent => "the centre is no pentagon's, ask for a hexagon's border",
+            Refusal::NotAdjacent => "name the pentagon on a face where it lies on the i axis; the border of any other cell is a hexagon's",
             Refusal::NoCrossing => "check the ends of the lines, which are parallel or too large",
             Refusal::BadLine => "write one line: face, level, p or s, i, j, k",
         }

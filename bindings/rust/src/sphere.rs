@@ -1,6 +1,6 @@
 //! The frame of twenty faces, and where a unit vector lies in it, alone and as a batch.
 use crate::answered::answered;
-use crate::{CellLevel, FaceIJK, Refusal, ffi};
+use crate::{CellLevel, FaceIJK, Refusal, Vec2d, ffi};
 
 /// A vector from the centre of the Earth. Of unit length, or it gets [`Refusal::OffSphere`].
 #[derive(Clone, Copy, Debug, PartialEq)]
@@ -79,6 +79,13 @@ impl TryFrom<&[f64]> for Frame {
     fn try_from(numbers: &[f64]) -> Result<Frame, Refusal> {
         Frame::new(numbers.try_into().map_err(|_| Refusal::BadFrame)?)
     }
+}
+
+/// The plane point of a unit vector on a face that the caller names. Refusals: 3, 4, 6, 7, 8.
+pub fn plane_point(frame: &Frame, face: u32, level: CellLevel, vector: impl Into<[f64; 3]>) -> Result<Vec2d, Refusal> {
+    let mut out = [0.0; 2];
+    answered(ffi::plane_point(&frame.0, face, level.0, vector.into(), &mut out))?;
+    Ok(Vec2d::new(out[0], out[1]))
 }
 
 /// The place of a unit vector. Refusals: 4, 6, 7, 8.

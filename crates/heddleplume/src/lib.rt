@@ -1,21 +1,57 @@
-// The C face: every entry as a C function. It returns the refusal's number, 0 for none, and writes its values into a lent
-// slice; on a refusal it writes nothing. A slice with fewer elements than the values gets 2. The crates `lent_..` do the work.
+// The C face: every entry that answers a question, as a C function. It returns the refusal's number, 0 for none, and writes its values
+// into a lent slice; on a refusal it writes nothing. A slice with fewer elements than the values gets 2. The crates `lent_..` do the work.
 ghost use Rattle.reply.specs.Replies.{answer};
-ghost use Rattle.coordijk.specs.Coordinates.{coord};
+ghost use Rattle.level.specs.Levels.{raiseReply, gridReply};
+ghost use Rattle.coordijk.specs.Coordinates.{coord, reduced, coordValues};
 ghost use Rattle.faceijk.specs.Entries.{turnReply, stepReply, crossReply, settleReply, directionReply, sameReply};
 ghost use Rattle.vec2d.specs.Points.{point};
 ghost use Rattle.vec2d.specs.Rounding.{roundReply};
 ghost use Rattle.vec2d.specs.Centre.{centreReply};
+ghost use Rattle.vec2d.specs.Closeness.{alikeReply};
 ghost use Rattle.vec3d.specs.Frame.{badFrame};
+ghost use Rattle.face_projection.specs.Projection.{planeReply};
 ghost use Rattle.locate.specs.Locating.{locateReply};
 ghost use Rattle.boundary.specs.Corners.{cornersReply};
 ghost use Rattle.boundary.specs.Boundaries.{boundaryReply};
 ghost use Rattle.frame.specs.Default.{defaultFrame};
 ghost use Rattle.lent.specs.Lent.{Gives, GivesFramed, bitsOf, at};
 ghost use Rattle.lent_grid.specs.Lines.{linesReply};
+ghost use Rattle.lent_grid.specs.Numbered.{numberedReply};
 ghost use Rattle.lent_places.specs.Places.{vec, GivesNearest, GivesBatch};
 ghost use Rattle.lent_borders.specs.Borders.{GivesBoundary};
 use reply::Refusal;
+
+// A cell level to its grid level.
+#[no_mangle]
+pub extern "C" fn heddleplume_raise(level: u32, out: &mut [u32]) -> u32
+    ensures { λ r. ⌜ Gives 1 (raiseReply level) (now (out .entry)) (now (out .exit)) r ⌝ }
+{
+    lent_grid::raise(level, out)
+}
+
+// The grid of a level: unit scale, limit, and 1 for a substrate grid, 0 for a plain one.
+#[no_mangle]
+pub extern "C" fn heddleplume_grid(level: u32, substrate: bool, out: &mut [u32]) -> u32
+    ensures { λ r. ⌜ Gives 3 (gridReply level substrate) (now (out .entry)) (now (out .exit)) r ⌝ }
+{
+    lent_grid::grid(level, substrate, out)
+}
+
+// A triple reduced: i, j, k.
+#[no_mangle]
+pub extern "C" fn heddleplume_reduce(i: u32, j: u32, k: u32, out: &mut [u32]) -> u32
+    ensures { λ r. ⌜ Gives 3 (answer (coordValues (reduced i j k))) (now (out .entry)) (now (out .exit)) r ⌝ }
+{
+    lent_grid::reduce(i, j, k, out)
+}
+
+// A triple under one of the five maps, 1..5: i, j, k.
+#[no_mangle]
+pub extern "C" fn heddleplume_map(map: u32, i: u32, j: u32, k: u32, out: &mut [u32]) -> u32
+    ensures { λ r. ⌜ Gives 3 (numberedReply map (coord i j k)) (now (out .entry)) (now (out .exit)) r ⌝ }
+{
+    lent_grid::map(map, i, j, k, out)
+}
 
 // The hexagon of a plane point: i, j, k.
 #[no_mangle]
@@ -39,6 +75,20 @@ pub extern "C" fn heddleplume_meet(lines: &[f64], out: &mut [f64]) -> u32
     ensures { λ r. ⌜ Gives 2 (linesReply (now (lines .entry))) (bitsOf (now (out .entry))) (bitsOf (now (out .exit))) r ⌝ }
 {
     lent_grid::meet(lines, out)
+}
+
+// Whether two plane points are equal within the tolerance: 1 yes, 0 no.
+#[no_mangle]
+pub extern "C" fn heddleplume_alike(
+    x: f64,
+    y: f64,
+    other_x: f64,
+    other_y: f64,
+    out: &mut [u32],
+) -> u32
+    ensures { λ r. ⌜ Gives 1 (alikeReply (point x y) (point «other_x» «other_y»)) (now (out .entry)) (now (out .exit)) r ⌝ }
+{
+    lent_grid::alike(x, y, other_x, other_y, out)
 }
 
 // The direction from one face to another: 0, 1, 2, 3 or 7.
@@ -147,6 +197,22 @@ pub extern "C" fn heddleplume_nearest(
     lent_places::nearest(frame, x, y, z, face, distance)
 }
 
+// The plane point of a unit vector on a named face at a cell level: x, y.
+#[no_mangle]
+pub extern "C" fn heddleplume_plane_point(
+    frame: &[f64],
+    face: u32,
+    level: u32,
+    x: f64,
+    y: f64,
+    z: f64,
+    out: &mut [f64],
+) -> u32
+    ensures { λ r. ⌜ GivesFramed (badFrame (now (frame .entry))) 2 (planeReply (now (frame .entry)) face level (vec x y z)) (bitsOf (now (out .entry))) (bitsOf (now (out .exit))) r ⌝ }
+{
+    lent_places::plane_point(frame, face, level, x, y, z, out)
+}
+
 // The place of a unit vector at a cell level: face, i, j, k.
 #[no_mangle]
 pub extern "C" fn heddleplume_place(
@@ -237,6 +303,6 @@ pub extern "C" fn heddleplume_frame(out: &mut [f64]) -> u32
         return Refusal::BadRows.number();
     }
     let frame = frame::default_frame();
-    lent::put_all(out, &frame);
+    lent::put_doubles(out, 0, &frame);
     0
 }

@@ -3,6 +3,7 @@ use mathlib.Core.Path.{_≡_, ap, _∙_}
 use mathlib.Core.Bool.{Bool, true, false}
 use mathlib.Core.List.{List, _++_}
 use Prim.Native.Nat.{ℕ, _≤_, _<_}
+use lib.Ieee.{Float}
 use lib.ListN.{length, drop}
 use borrow.Author.Tests.{lt-ltb, le-ltb}
 use Rattle.reply.specs.Choice.{pick}
@@ -12,8 +13,8 @@ use Rattle.reply.specs.declared.Verdict.{Verdict}
 use Rattle.reply.specs.declared.Verdict.the-variants.{Refused}
 use Rattle.reply.specs.Replies.{numberOf, Reply, answer, refusal, reply}
 use Rattle.reply.proofs.Entries.{answer-or-refusal}
-use Rattle.lent.specs.Lent.{framedNumber, GivesFramed}
-use Rattle.lent.proofs.Lent.{kept}
+use Rattle.lent.specs.Lent.{framedNumber, GivesFramed, bitsOf}
+use Rattle.lent.proofs.Lent.{kept, few, room-bits, bits-written}
 
 -- a bad frame or a short slice
 abbrev pub frameOrRows : Bool → Refusal
@@ -56,3 +57,17 @@ module _ (bad : Bool) (n : ℕ) (out : List ℕ) where
         number = rw (le-ltb (length out) n room) (w ∙ refusal-number bad n v x ws e);
         values = kept x k n (framedReply bad n v ws .values) out w;
       }
+
+-- The same for a slice of doubles, read by their bits.
+module _ (bad : Bool) (n : ℕ) (out : List Float) where
+  pub short-framed-doubles : (r : Reply) (k : ℕ) → length out < n → k ≡ pick bad 1 2 → GivesFramed bad n r (bitsOf out) (bitsOf out) k
+  short-framed-doubles r k h e = short-framed bad n (bitsOf out) r k (few n out h) e
+
+  pub answers-framed-doubles : n ≤ length out → (v : Verdict) (vs : List Float) (ws : List ℕ) (after : List Float) → answer (bitsOf vs) ≡ framedReply bad n v ws
+      → after ≡ vs ++ drop n out → GivesFramed bad n (framedReply bad n v ws) (bitsOf out) (bitsOf after) 0
+  answers-framed-doubles room v vs ws after e w =
+      answers-framed bad n (bitsOf out) (room-bits n out room) v (bitsOf vs) ws (bitsOf after) e (bits-written n vs out after w)
+
+  pub refuses-framed-doubles : n ≤ length out → (v : Verdict) (x : Refusal) (ws : List ℕ) (k : ℕ) → refusal n x ≡ framedReply bad n v ws → k ≡ numberOf x
+      → GivesFramed bad n (framedReply bad n v ws) (bitsOf out) (bitsOf out) k
+  refuses-framed-doubles room v x ws k e w = refuses-framed bad n (bitsOf out) (room-bits n out room) v x ws k e w

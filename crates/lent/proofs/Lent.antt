@@ -48,13 +48,13 @@ pub bits-written : (n : ℕ) (vs out after : List Float) → after ≡ vs ++ dro
 bits-written n vs out after w = ap bitsOf w ∙ (bits-append vs (drop n out) ∙ ap (λ (l : List ℕ). bitsOf vs ++ l) (bits-drop n out))
 
 module _ (n : ℕ) (out : List Float) where
-  few : length out < n → length (bitsOf out) < n
+  pub few : length out < n → length (bitsOf out) < n
   few h = rw (length-map out (toBits binary64)) h
 
   pub short-doubles : (r : Reply) (k : ℕ) → length out < n → k ≡ numberOf BadRows → Gives n r (bitsOf out) (bitsOf out) k
   short-doubles r k h e = short n r (bitsOf out) k (few h) e
 
-  room-bits : n ≤ length out → n ≤ length (bitsOf out)
+  pub room-bits : n ≤ length out → n ≤ length (bitsOf out)
   room-bits h = rw (length-map out (toBits binary64)) h
 
   pub answers-doubles : n ≤ length out → (r : Reply) (vs after : List Float) → answer (bitsOf vs) ≡ r → after ≡ vs ++ drop n out → Gives n r (bitsOf out) (bitsOf after) 0

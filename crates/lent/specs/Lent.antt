@@ -2,14 +2,18 @@
 use mathlib.Core.Path.{_≡_}
 use mathlib.Core.Bool.{Bool}
 use mathlib.Core.List.{List, _++_, map}
-use Prim.Native.Nat.{ℕ}
+use Prim.Native.Nat.{ℕ, _+_}
 use lib.Dec.{ltb, eqb}
 use lib.Ieee.{Float, binary64, toBits}
-use lib.ListN.{length, drop}
+use lib.ListN.{length, take, drop}
 use Rattle.reply.specs.Choice.{pick}
 use Rattle.reply.specs.declared.Refusal.the-variants.{BadFrame, BadRows}
 use Rattle.reply.specs.Replies.{numberOf, Reply}
 use Rattle.faceijk.specs.declared.Place.{Place}
+
+-- what a slice that held `old` holds after values were stored in it from an index on
+abbrev pub stored : {A : Type 0} → List A → ℕ → List A → List A
+stored old at vs = take at old ++ vs ++ drop (at + length vs) old
 
 -- a slice that holds `out` after a call that returns k and has n values for it: the values and, past them, what it held; a refusal writes nothing
 abbrev pub held : ℕ → ℕ → List ℕ → List ℕ → List ℕ

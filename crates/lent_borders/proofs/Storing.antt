@@ -6,8 +6,8 @@ use native.Mathlib.Numerals.{add-one}
 use native.Mathlib.Omega.{arith}
 use lib.Ieee.{Float}
 use lib.ListN.{length, getD, take, drop}
-use lib.Seq.{sets, take-suc, drop-drop}
-use Rattle.lent.specs.Lent.{bitsOf}
+use lib.Seq.{take-suc, drop-drop}
+use Rattle.lent.specs.Lent.{stored, bitsOf}
 use Rattle.lent.proofs.Writing.{put-more}
 use Rattle.coordijk.specs.declared.CoordIJK.{CoordIJK}
 use Rattle.coordijk.specs.Coordinates.{coordValues}
@@ -20,10 +20,10 @@ use Rattle.lent_borders.specs.Borders.{marksIn, pointsIn}
 module _ {A B : Type 0} (f : List A → List B) (row : A → List B) (snoc : (xs : List A) (x : A) → f (xs ++ (x ∷ [])) ≡ f xs ++ row x) where
   pub store-more : (h : List B) (xs : List A) (d : A) (o out : List B) (v n m : ℕ) → v < length xs → m ≡ n + length (row (getD xs v d)) → m ≤ length o
       → length out ≡ length o → out ≡ (h ++ f (take v xs)) ++ drop n o
-      → sets out n (row (getD xs v d)) ≡ (h ++ f (take (v + 1) xs)) ++ drop m o
+      → stored out n (row (getD xs v d)) ≡ (h ++ f (take (v + 1) xs)) ++ drop m o
   store-more h xs d o out v n m more e room long was =
-      let stored = put-more (h ++ f (take v xs)) o (row (getD xs v d)) n (ap length (sym was) ∙ long) (omega arith) in
-      rw was (stored ∙ rw (e, add-one, take-suc xs v d more, snoc, append-assoc h (f (take v xs)) (row (getD xs v d))))
+      let put = put-more (h ++ f (take v xs)) o (row (getD xs v d)) n (ap length (sym was) ∙ long) (omega arith) in
+      rw was (put ∙ rw (e, add-one, take-suc xs v d more, snoc, append-assoc h (f (take v xs)) (row (getD xs v d))))
 
 -- corners
 pub coords-snoc : (cs : List CoordIJK) (c : CoordIJK) → coordsValues (cs ++ (c ∷ [])) ≡ coordsValues cs ++ coordValues c

@@ -21,11 +21,11 @@ fn put_corners(out: &mut [u32], grid: u32, corners: [CoordIJK; 6])
     requires { ⌜ 19 ≤ length (now out) ⌝ }
     ensures { λ _. ⌜ now (out .exit) ≡ (grid ∷ coordsValues corners) ++ drop 19 (now (out .entry)) ⌝ }
 {
-    lent::put1(out, grid);
+    lent::put(out, 0, &[grid]);
     let mut v = 0usize;
     while v < 6 {
         let c = corners[v];
-        lent::put3_at(out, 3 * v + 1, c.i, c.j, c.k);
+        lent::put(out, 3 * v + 1, &[c.i, c.j, c.k]);
         v += 1;
     }
 }
@@ -54,11 +54,11 @@ fn put_marks(marks: &mut [u32], count: u32, points: [BoundaryPoint; 12])
     requires { ⌜ 25 ≤ length (now marks) ⌝ }
     ensures { λ _. ⌜ now (marks .exit) ≡ marksOf (count ∷ pointsValues points) ++ drop 25 (now (marks .entry)) ⌝ }
 {
-    lent::put1(marks, count);
+    lent::put(marks, 0, &[count]);
     let mut v = 0usize;
     while v < 12 {
         let p = points[v];
-        lent::put2_at(marks, 2 * v + 1, p.face, p.mark);
+        lent::put(marks, 2 * v + 1, &[p.face, p.mark]);
         v += 1;
     }
 }
@@ -71,7 +71,7 @@ fn put_points(out: &mut [f64], count: u32, points: [BoundaryPoint; 12])
     let mut v = 0usize;
     while v < 12 {
         let p = points[v];
-        lent::put2_doubles_at(out, 2 * v, p.x, p.y);
+        lent::put_doubles(out, 2 * v, &[p.x, p.y]);
         v += 1;
     }
 }

@@ -1,28 +1,135 @@
-// What the C face does with plane points and places: rounding, centres, where lines meet, and the moves between faces. Each function
-// returns the refusal's number, 0 for none, and a refusal writes nothing.
+// What the C face does with levels, plane points and places: grids, reducing and the maps, rounding, centres, where lines meet, and the
+// moves between faces. Each function returns the refusal's number, 0 for none, and a refusal writes nothing.
 ghost use mathlib.Core.Path.{_≡_};
 ghost use Prim.Native.Nat.{_+_, _≤_};
 ghost use lib.ListN.{length};
 ghost use Rattle.faceijk.specs.Entries.{turnReply, stepReply, crossReply, settleReply, directionReply, sameReply};
-ghost use Rattle.vec2d.specs.Points.{point, saidPointed};
-ghost use Rattle.coordijk.specs.Coordinates.{coord};
+ghost use Rattle.reply.specs.Replies.{answer};
+ghost use Rattle.level.specs.Levels.{bit, raiseReply, gridReply};
+ghost use Rattle.vec2d.specs.Points.{point, pointAt, saidPointed};
+ghost use Rattle.vec2d.specs.Meeting.{lineAt};
+ghost use Rattle.vec2d.specs.Closeness.{alikeReply};
+ghost use Rattle.coordijk.specs.Coordinates.{coord, reduced, coordValues};
+ghost use Rattle.coordijk.specs.Maps.{saidMapped};
 ghost use Rattle.vec2d.specs.Rounding.{roundReply};
 ghost use Rattle.vec2d.specs.Centre.{centreReply};
 ghost use Rattle.lent.specs.Lent.{Gives, bitsOf, at};
-ghost use Rattle.lent_grid.specs.Lines.{lineAt, linesReply};
+ghost use Rattle.lent_grid.specs.Lines.{linesReply};
+ghost use Rattle.lent_grid.specs.Numbered.{mapAt, numberedReply};
 use coordijk::CoordIJK;
+use coordijk::GridMap;
+use coordijk::Mapped;
 use faceijk::Crossed;
 use faceijk::Directed;
 use faceijk::Moved;
 use faceijk::Place;
 use faceijk::SameCorner;
 use faceijk::Settled;
+use level::CellLevel;
 use level::GridLevel;
+use level::Gridded;
+use level::Raised;
 use reply::Refusal;
+use vec2d::Alike;
 use vec2d::Line;
 use vec2d::Pointed;
 use vec2d::Rounded;
 use vec2d::Vec2d;
+
+// A cell level to its grid level: an odd one is raised by one.
+pub fn raise(level: u32, out: &mut [u32]) -> u32
+    ensures { λ r. ⌜ Gives 1 (raiseReply level) (now (out .entry)) (now (out .exit)) r ⌝ }
+{
+    if out.len() < 1 {
+        return Refusal::BadRows.number();
+    }
+    let raised = CellLevel(level).raise();
+    match raised {
+        Raised::Done(g) => {
+            let values = [g.0];
+            lent::put(out, 0, &values);
+            0
+        }
+        Raised::Refused(refusal) => refusal.number(),
+    }
+}
+
+fn flag(yes: bool) -> u32
+    ensures { λ r. ⌜ r ≡ bit yes ⌝ }
+{
+    if yes { 1 } else { 0 }
+}
+
+// The grid of a level: its unit scale, its limit, and 1 for a substrate grid, 0 for a plain one.
+pub fn grid(level: u32, substrate: bool, out: &mut [u32]) -> u32
+    ensures { λ r. ⌜ Gives 3 (gridReply level substrate) (now (out .entry)) (now (out .exit)) r ⌝ }
+{
+    if out.len() < 3 {
+        return Refusal::BadRows.number();
+    }
+    let gridded = GridLevel(level).grid(substrate);
+    match gridded {
+        Gridded::Done(g) => {
+            let values = [g.unit, g.limit, flag(g.substrate)];
+            lent::put(out, 0, &values);
+            0
+        }
+        Gridded::Refused(refusal) => refusal.number(),
+    }
+}
+
+// The least coordinate taken from all three: i, j, k. Any triple is taken.
+pub fn reduce(i: u32, j: u32, k: u32, out: &mut [u32]) -> u32
+    ensures { λ r. ⌜ Gives 3 (answer (coordValues (reduced i j k))) (now (out .entry)) (now (out .exit)) r ⌝ }
+{
+    if out.len() < 3 {
+        return Refusal::BadRows.number();
+    }
+    let c = CoordIJK::new(i, j, k).reduce();
+    let values = [c.i, c.j, c.k];
+    lent::put(out, 0, &values);
+    0
+}
+
+// The map of a number 1..5; of another it is some map, and none is asked for.
+fn map_at(n: u32) -> GridMap
+    ensures { λ r. ⌜ r ≡ mapAt n ⌝ }
+{
+    match n {
+        1 => GridMap::SixthTurnCcw,
+        2 => GridMap::SixthTurnCw,
+        3 => GridMap::Aperture3Ccw,
+        4 => GridMap::Aperture3Cw,
+        _ => GridMap::Aperture7Cw,
+    }
+}
+
+fn mapped(c: CoordIJK, map: u32) -> Mapped
+    ensures { λ r. ⌜ saidMapped r ≡ numberedReply map c ⌝ }
+{
+    if (map < 1) | (5 < map) {
+        return Mapped::Refused(Refusal::BadRange);
+    }
+    c.map(map_at(map))
+}
+
+// A triple under one of the five maps, which are named by the number of their row, 1..5: i, j, k.
+pub fn map(map: u32, i: u32, j: u32, k: u32, out: &mut [u32]) -> u32
+    ensures { λ r. ⌜ Gives 3 (numberedReply map (coord i j k)) (now (out .entry)) (now (out .exit)) r ⌝ }
+{
+    if out.len() < 3 {
+        return Refusal::BadRows.number();
+    }
+    let image = mapped(CoordIJK::new(i, j, k), map);
+    match image {
+        Mapped::Done(c) => {
+            let values = [c.i, c.j, c.k];
+            lent::put(out, 0, &values);
+            0
+        }
+        Mapped::Refused(refusal) => refusal.number(),
+    }
+}
 
 // The hexagon of a plane point: i, j, k.
 pub fn round(x: f64, y: f64, out: &mut [u32]) -> u32
@@ -34,7 +141,8 @@ pub fn round(x: f64, y: f64, out: &mut [u32]) -> u32
     let rounded = Vec2d::new(x, y).to_ijk();
     match rounded {
         Rounded::Done(c) => {
-            lent::put3(out, c.i, c.j, c.k);
+            let values = [c.i, c.j, c.k];
+            lent::put(out, 0, &values);
             0
         }
         Rounded::Refused(refusal) => refusal.number(),
@@ -51,11 +159,19 @@ pub fn centre(i: u32, j: u32, k: u32, out: &mut [f64]) -> u32
     let pointed = Vec2d::centre(CoordIJK::new(i, j, k));
     match pointed {
         Pointed::Done(v) => {
-            lent::put2(out, v.x, v.y);
+            let values = [v.x, v.y];
+            lent::put_doubles(out, 0, &values);
             0
         }
         Pointed::Refused(refusal) => refusal.number(),
     }
+}
+
+fn point_at(lines: &[f64], at: usize) -> Vec2d
+    requires { ⌜ at + 2 ≤ length (now lines) ⌝ }
+    ensures { λ r. ⌜ r ≡ pointAt (now (lines .entry)) at ⌝ }
+{
+    Vec2d::new(lines[at], lines[at + 1])
 }
 
 fn line_at(lines: &[f64], at: usize) -> Line
@@ -63,8 +179,8 @@ fn line_at(lines: &[f64], at: usize) -> Line
     ensures { λ r. ⌜ r ≡ lineAt (now (lines .entry)) at ⌝ }
 {
     Line {
-        from: Vec2d::new(lines[at], lines[at + 1]),
-        to: Vec2d::new(lines[at + 2], lines[at + 3]),
+        from: point_at(lines, at),
+        to: point_at(lines, at + 2),
     }
 }
 
@@ -87,10 +203,32 @@ pub fn meet(lines: &[f64], out: &mut [f64]) -> u32
     let pointed = met(lines);
     match pointed {
         Pointed::Done(v) => {
-            lent::put2(out, v.x, v.y);
+            let values = [v.x, v.y];
+            lent::put_doubles(out, 0, &values);
             0
         }
         Pointed::Refused(refusal) => refusal.number(),
+    }
+}
+
+// Whether both parts of two points differ by at most 2^-23: 1 yes, 0 no.
+pub fn alike(x: f64, y: f64, other_x: f64, other_y: f64, out: &mut [u32]) -> u32
+    ensures { λ r. ⌜ Gives 1 (alikeReply (point x y) (point «other_x» «other_y»)) (now (out .entry)) (now (out .exit)) r ⌝ }
+{
+    if out.len() < 1 {
+        return Refusal::BadRows.number();
+    }
+    let alike = Vec2d::new(x, y).alike(Vec2d::new(other_x, other_y));
+    match alike {
+        Alike::Yes => {
+            lent::put(out, 0, &[1]);
+            0
+        }
+        Alike::No => {
+            lent::put(out, 0, &[0]);
+            0
+        }
+        Alike::Refused(refusal) => refusal.number(),
     }
 }
 
@@ -104,7 +242,8 @@ pub fn direction(from: u32, to: u32, out: &mut [u32]) -> u32
     let directed = faceijk::face_direction(from, to);
     match directed {
         Directed::Done(d) => {
-            lent::put1(out, d.number());
+            let values = [d.number()];
+            lent::put(out, 0, &values);
             0
         }
         Directed::Refused(refusal) => refusal.number(),
@@ -121,7 +260,8 @@ pub fn turn(face: u32, i: u32, j: u32, k: u32, clockwise: bool, out: &mut [u32])
     let moved = Place::new(face, i, j, k).turn(clockwise);
     match moved {
         Moved::Done(p) => {
-            lent::put4(out, p.face, p.i, p.j, p.k);
+            let values = [p.face, p.i, p.j, p.k];
+            lent::put(out, 0, &values);
             0
         }
         Moved::Refused(refusal) => refusal.number(),
@@ -147,7 +287,8 @@ pub fn step(
     let moved = Place::new(face, i, j, k).step(GridLevel(level), substrate, edge);
     match moved {
         Moved::Done(p) => {
-            lent::put4(out, p.face, p.i, p.j, p.k);
+            let values = [p.face, p.i, p.j, p.k];
+            lent::put(out, 0, &values);
             0
         }
         Moved::Refused(refusal) => refusal.number(),
@@ -174,14 +315,14 @@ pub fn cross(
     match crossed {
         Crossed::Done(l) => {
             let overage = l.overage;
-            lent::put5(
-                out,
+            let values = [
                 l.place.face,
                 l.place.i,
                 l.place.j,
                 l.place.k,
                 overage.number(),
-            );
+            ];
+            lent::put(out, 0, &values);
             0
         }
         Crossed::Refused(refusal) => refusal.number(),
@@ -206,14 +347,14 @@ pub fn settle(
     let settled = Place::new(face, i, j, k).settle(GridLevel(level), substrate);
     match settled {
         Settled::Done(s) => {
-            lent::put5_wide(
-                out,
+            let values = [
                 s.place.face as u64,
                 s.place.i as u64,
                 s.place.j as u64,
                 s.place.k as u64,
                 s.steps,
-            );
+            ];
+            lent::put_wide(out, 0, &values);
             0
         }
         Settled::Refused(refusal) => refusal.number(),
@@ -245,11 +386,11 @@ pub fn same_corner(
     ));
     match same {
         SameCorner::Yes => {
-            lent::put1(out, 1);
+            lent::put(out, 0, &[1]);
             0
         }
         SameCorner::No => {
-            lent::put1(out, 0);
+            lent::put(out, 0, &[0]);
             0
         }
         SameCorner::Refused(refusal) => refusal.number(),

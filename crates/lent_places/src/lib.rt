@@ -1,15 +1,17 @@
-// What the C face does with a lent frame: the nearest face, a place, a batch. Each function returns the refusal's number, 0 for none, and
+// What the C face does with a lent frame: the nearest face, a plane point, a place, a batch. Each function returns the refusal's number, 0 for none, and
 // a refusal writes nothing. A bad frame gets 1 even where a slice is too short.
 ghost use mathlib.Core.Path.{_≡_};
 ghost use Rattle.reply.specs.Choice.{pick};
 ghost use Rattle.lent.specs.Lent.{GivesFramed, bitsOf};
 ghost use Rattle.vec3d.specs.Frame.{badFrame};
+ghost use Rattle.face_projection.specs.Projection.{planeReply};
 ghost use Rattle.locate.specs.Locating.{locateReply};
 ghost use Rattle.lent_places.specs.Places.{vec, GivesNearest, GivesBatch};
 use level::CellLevel;
 use locate::Batch;
 use locate::Located;
 use reply::Refusal;
+use vec2d::Pointed;
 use vec3d::NearestFace;
 use vec3d::Vec3d;
 
@@ -33,11 +35,37 @@ pub fn nearest(frame: &[f64], x: f64, y: f64, z: f64, face: &mut [u32], distance
     let nearest = vec3d::nearest_face(frame, Vec3d::new(x, y, z));
     match nearest {
         NearestFace::Done(n) => {
-            lent::put1(face, n.face);
-            lent::put1_double(distance, n.distance);
+            lent::put(face, 0, &[n.face]);
+            lent::put_doubles(distance, 0, &[n.distance]);
             0
         }
         NearestFace::Refused(refusal) => refusal.number(),
+    }
+}
+
+// The plane point of a unit vector on a named face at a cell level: x, y.
+pub fn plane_point(
+    frame: &[f64],
+    face: u32,
+    level: u32,
+    x: f64,
+    y: f64,
+    z: f64,
+    out: &mut [f64],
+) -> u32
+    ensures { λ r. ⌜ GivesFramed (badFrame (now (frame .entry))) 2 (planeReply (now (frame .entry)) face level (vec x y z)) (bitsOf (now (out .entry))) (bitsOf (now (out .exit))) r ⌝ }
+{
+    if out.len() < 2 {
+        return frame_or_rows(frame);
+    }
+    let pointed = face_projection::plane_point(frame, face, CellLevel(level), Vec3d::new(x, y, z));
+    match pointed {
+        Pointed::Done(v) => {
+            let values = [v.x, v.y];
+            lent::put_doubles(out, 0, &values);
+            0
+        }
+        Pointed::Refused(refusal) => refusal.number(),
     }
 }
 
@@ -51,7 +79,8 @@ pub fn place(frame: &[f64], x: f64, y: f64, z: f64, level: u32, out: &mut [u32])
     let located = locate::locate(frame, CellLevel(level), Vec3d::new(x, y, z));
     match located {
         Located::Done(p) => {
-            lent::put4(out, p.face, p.i, p.j, p.k);
+            let values = [p.face, p.i, p.j, p.k];
+            lent::put(out, 0, &values);
             0
         }
         Located::Refused(refusal) => refusal.number(),
@@ -75,7 +104,7 @@ pub fn batch(
     let batch = locate::locate_all(frame, CellLevel(level), input, out, first);
     match batch {
         Batch::Done(n) => {
-            lent::put1_wide(refused, n as u64);
+            lent::put_wide(refused, 0, &[n as u64]);
             0
         }
         Batch::Refused(refusal) => refusal.number(),

@@ -1,6 +1,7 @@
 -- Where two lines meet, by the formula of `Vec2d::intersection`.
 use mathlib.Core.Bool.{Bool, not, _&&_, _||_}
 use mathlib.Core.List.{List, [], _∷_}
+use Prim.Native.Nat.{ℕ, _+_}
 use lib.Ieee.{Float, binary64, sub, mul, div, neg, eq}
 use Rattle.reply.specs.Choice.{pick}
 use Rattle.reply.specs.declared.Verdict.{Verdict}
@@ -12,7 +13,11 @@ use Rattle.vec2d.specs.declared.Line.{Line}
 use Rattle.vec2d.specs.declared.Crossing.{Crossing}
 use Rattle.vec2d.specs.declared.Pointed.{Pointed}
 use Rattle.vec2d.specs.declared.Pointed.the-variants.{Done, Refused}
-use Rattle.vec2d.specs.Points.{point, isPoint, pointValues}
+use Rattle.vec2d.specs.Points.{point, pointAt, isPoint, pointValues}
+
+-- the line of four doubles that stand in a list from a number on: x and y of its from and its to
+abbrev pub lineAt : List Float → ℕ → Line
+lineAt ds n = record { from = pointAt ds n; to = pointAt ds (n + 2) }
 
 unfoldable pub isLine : Line → Bool
 isLine l = isPoint (l .from) && isPoint (l .to)

@@ -2,7 +2,7 @@
 use crate::{borders, chance::Chance, ours::{At, Outline, Vector, bare}, places, vectors};
 use h3o::coord::{CoordIJK, FaceIJK, Vec2d, Vec3d};
 use h3o::face::FRAME;
-use h3o::{Boundary, ExtendedResolution, Resolution, Vertex, plane};
+use h3o::{Boundary, ExtendedResolution, Face, Resolution, Vertex, plane};
 use std::hint::black_box;
 use std::time::Instant;
 
@@ -129,6 +129,32 @@ fn nearest() {
     );
 }
 
+/// The plane point on a face that is known, as a border's drawing asks for it; the Rust is given the distance too.
+fn plane_point() {
+    let known: Vec<(Vector, Face, f64)> = uniform(MANY)
+        .into_iter()
+        .map(|v| {
+            let (face, distance) = vec3d(v).closest_face();
+            (v, face, distance)
+        })
+        .collect();
+    row(
+        "plane point on a known face, level 9", MANY,
+        || {
+            for &(v, face, _) in &known {
+                let mut out = [0f64; 2];
+                black_box(bare::plane_point(&FRAME, usize::from(face) as u32, 9, v, &mut out));
+                black_box(out);
+            }
+        },
+        || {
+            for &(v, face, distance) in &known {
+                black_box(Vec2d::from_vec3d(vec3d(v), Resolution(black_box(9)), face, distance));
+            }
+        },
+    );
+}
+
 /// Places with two coordinates up to 2^20, on all faces.
 fn far_places(n: usize) -> Vec<At> {
     let mut chance = Chance(11);
@@ -206,11 +232,12 @@ fn pentagons() {
 }
 
 /// The table's rows in their order, each under the question's name.
-const ROWS: [(&str, fn()); 9] = [
+const ROWS: [(&str, fn()); 10] = [
     ("place", place),
     ("place", place_one),
     ("round", round),
     ("nearest", nearest),
+    ("plane point", plane_point),
     ("settle", || settle("settling, level 10, coordinates to 2^20", 10, MANY)),
     ("settle", || settle("settling, level 0, coordinates to 2^20", 0, 300)),
     ("hexagon", || hexagons("hexagon boundary, level 8", 8)),

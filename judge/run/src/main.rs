@@ -2,6 +2,7 @@
 mod bench;
 mod borders;
 mod chance;
+mod grids;
 mod ours;
 mod places;
 mod plane;
@@ -51,10 +52,15 @@ impl Tally {
 /// A question's name and who asks it.
 type Question = (&'static str, fn(&mut Tally));
 
-const QUESTIONS: [Question; 17] = [
+const QUESTIONS: [Question; 23] = [
+    ("raise", grids::run_raise),
+    ("grid", grids::run_grid),
+    ("reduce", grids::run_reduce),
+    ("map", grids::run_map),
     ("round", round::run),
     ("centre", plane::run_centre),
     ("meet", plane::run_meet),
+    ("alike", plane::run_alike),
     ("direction", places::run_direction),
     ("turn", places::run_turn),
     ("step", places::run_step),
@@ -64,6 +70,7 @@ const QUESTIONS: [Question; 17] = [
     ("short slices", short::run),
     ("frame", vectors::run_frame),
     ("nearest", vectors::run_nearest),
+    ("plane point", vectors::run_plane_point),
     ("place", vectors::run_place),
     ("batch", vectors::run_batch),
     ("corners", borders::run_corners),

@@ -1,6 +1,14 @@
 //! The proved library's C face. Nothing checks these declarations against its source but the runs themselves.
 
 unsafe extern "C" {
+    fn heddleplume_raise(level: u32, out: *mut u32, len: usize) -> u32;
+    fn heddleplume_grid(level: u32, substrate: bool, out: *mut u32, len: usize) -> u32;
+    fn heddleplume_reduce(i: u32, j: u32, k: u32, out: *mut u32, len: usize) -> u32;
+    fn heddleplume_map(map: u32, i: u32, j: u32, k: u32, out: *mut u32, len: usize) -> u32;
+    fn heddleplume_alike(x: f64, y: f64, other_x: f64, other_y: f64, out: *mut u32, len: usize) -> u32;
+    fn heddleplume_plane_point(
+        frame: *const f64, frame_len: usize, face: u32, level: u32, x: f64, y: f64, z: f64, out: *mut f64, len: usize,
+    ) -> u32;
     fn heddleplume_round(x: f64, y: f64, out: *mut u32, len: usize) -> u32;
     fn heddleplume_centre(i: u32, j: u32, k: u32, out: *mut f64, len: usize) -> u32;
     fn heddleplume_meet(lines: *const f64, lines_len: usize, out: *mut f64, len: usize) -> u32;
@@ -34,6 +42,24 @@ unsafe extern "C" {
 pub mod bare {
     use super::*;
 
+    pub fn raise(level: u32, out: &mut [u32]) -> u32 {
+        unsafe { heddleplume_raise(level, out.as_mut_ptr(), out.len()) }
+    }
+    pub fn grid(level: u32, substrate: bool, out: &mut [u32]) -> u32 {
+        unsafe { heddleplume_grid(level, substrate, out.as_mut_ptr(), out.len()) }
+    }
+    pub fn reduce((i, j, k): Triple, out: &mut [u32]) -> u32 {
+        unsafe { heddleplume_reduce(i, j, k, out.as_mut_ptr(), out.len()) }
+    }
+    pub fn map(map: u32, (i, j, k): Triple, out: &mut [u32]) -> u32 {
+        unsafe { heddleplume_map(map, i, j, k, out.as_mut_ptr(), out.len()) }
+    }
+    pub fn alike((x, y): (f64, f64), (other_x, other_y): (f64, f64), out: &mut [u32]) -> u32 {
+        unsafe { heddleplume_alike(x, y, other_x, other_y, out.as_mut_ptr(), out.len()) }
+    }
+    pub fn plane_point(frame: &[f64], face: u32, level: u32, [x, y, z]: Vector, out: &mut [f64]) -> u32 {
+        unsafe { heddleplume_plane_point(frame.as_ptr(), frame.len(), face, level, x, y, z, out.as_mut_ptr(), out.len()) }
+    }
     pub fn round((x, y): (f64, f64), out: &mut [u32]) -> u32 {
         unsafe { heddleplume_round(x, y, out.as_mut_ptr(), out.len()) }
     }
@@ -131,6 +157,33 @@ pub type At = (u32, u32, u32, u32);
 
 /// A vector: x, y, z.
 pub type Vector = [f64; 3];
+
+/// Coordinates: i, j, k.
+pub type Triple = (u32, u32, u32);
+
+pub fn raise(level: u32) -> Said<1> {
+    asked::<1, 2>(|out| bare::raise(level, out))
+}
+
+pub fn grid(level: u32, substrate: bool) -> Said<3> {
+    asked::<3, 4>(|out| bare::grid(level, substrate, out))
+}
+
+pub fn reduce(at: Triple) -> Said<3> {
+    asked::<3, 4>(|out| bare::reduce(at, out))
+}
+
+pub fn map(number: u32, at: Triple) -> Said<3> {
+    asked::<3, 4>(|out| bare::map(number, at, out))
+}
+
+pub fn alike(a: (f64, f64), b: (f64, f64)) -> Said<1> {
+    asked::<1, 2>(|out| bare::alike(a, b, out))
+}
+
+pub fn plane_point(frame: &[f64], face: u32, level: u32, v: Vector) -> Said<2> {
+    asked_doubles::<2, 3>(|out| bare::plane_point(frame, face, level, v, out))
+}
 
 pub fn round(x: f64, y: f64) -> Said<3> {
     asked::<3, 4>(|out| bare::round((x, y), out))

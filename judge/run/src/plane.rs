@@ -1,5 +1,5 @@
-//! Plane points: the centre of a hexagon and `Vec2d::intersection` of the Rust beside the proved ones, bit for bit.
-use crate::{Tally, chance::Chance, ours, ours::Said};
+//! Plane points: the centre of a hexagon, `Vec2d::intersection` and the equality of the Rust beside the proved ones, bit for bit.
+use crate::{Tally, chance::Chance, ours, ours::Said, round};
 use h3o::coord::{CoordIJK, Vec2d};
 
 fn said(v: Vec2d) -> Said<2> {
@@ -91,5 +91,36 @@ pub fn run_meet(tally: &mut Tally) {
     }
     for n in [0, 1, 7, 9, 16] {
         tally.same(ours::meet(&vec![1.; n]), Said::refused(2), || format!("meet with {n} doubles"));
+    }
+}
+
+/// 6 for a number that is none, else the Rust's `==`.
+fn oracle_alike(a: (f64, f64), b: (f64, f64)) -> Said<1> {
+    if [a.0, a.1, b.0, b.1].iter().any(|x| !x.is_finite()) {
+        return Said::refused(6);
+    }
+    Said::done([u64::from(Vec2d::new(a.0, a.1) == Vec2d::new(b.0, b.1))])
+}
+
+/// A number that is the tolerance away from x, by some last bits more or less.
+fn a_tolerance_from(c: &mut Chance, x: f64) -> f64 {
+    let by = f64::from(f32::EPSILON) * if c.below(2) == 0 { 1. } else { -1. };
+    let y = x + if c.below(8) == 0 { by * c.unit() } else { by };
+    f64::from_bits(y.to_bits().wrapping_add(c.below(7)).wrapping_sub(3))
+}
+
+pub fn run_alike(tally: &mut Tally) {
+    let mut c = Chance(23);
+    let mut ask = |a, b| tally.same(ours::alike(a, b), oracle_alike(a, b), || format!("alike {a:?} {b:?}"));
+    for _ in 0..4_000_000 {
+        let (a, b) = (round::some_point(&mut c), round::some_point(&mut c));
+        ask(a, b);
+        ask(a, a);
+    }
+    for _ in 0..8_000_000 {
+        let size = f64::from_bits((1023 - 30 + c.below(58)) << 52);
+        let a = (c.unit() * size, c.unit() * size);
+        let b = (a_tolerance_from(&mut c, a.0), if c.below(2) == 0 { a.1 } else { a_tolerance_from(&mut c, a.1) });
+        ask(a, b);
     }
 }

@@ -22,6 +22,12 @@ fn short<T: Copy + PartialEq>(tally: &mut Tally, name: &str, values: usize, befo
 
 fn places(tally: &mut Tally) {
     let (word, double) = (UNTOUCHED, untouched());
+    short(tally, "raise", 1, word, |out| bare::raise(16, out));
+    short(tally, "grid", 3, word, |out| bare::grid(17, true, out));
+    short(tally, "reduce", 3, word, |out| bare::reduce((1, 1, 1), out));
+    short(tally, "map", 3, word, |out| bare::map(0, (1, 1, 1), out));
+    short(tally, "alike", 1, word, |out| bare::alike((f64::NAN, 0.), (0., 0.), out));
+    short(tally, "plane point", 2, double, |out| bare::plane_point(&FRAME, 20, 16, NOTHING, out));
     short(tally, "round", 3, word, |out| bare::round((f64::NAN, 0.), out));
     short(tally, "centre", 2, double, |out| bare::centre((1, 1, 1), out));
     short(tally, "meet", 2, double, |out| bare::meet(&[f64::NAN; 8], out));
@@ -58,6 +64,8 @@ fn framed(tally: &mut Tally) {
         let mut rows = [7; 4];
         let number = bare::batch(frame, 16, &NOTHING, &mut rows, 0, &mut []);
         tally.holds(number == wanted && rows == [7; 4], || format!("batch without room for the count: {number}"));
+        let number = bare::plane_point(frame, 20, 16, NOTHING, &mut []);
+        tally.holds(number == wanted, || format!("plane point into nothing: {number}"));
         let number = bare::place(frame, NOTHING, 16, &mut []);
         tally.holds(number == wanted, || format!("place into nothing: {number}"));
     }

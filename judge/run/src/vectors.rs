@@ -1,4 +1,4 @@
-//! Vectors: nearest face, place and batch. `closest_face` of the Rust has the same operations and must agree by its bits;
+//! Vectors: nearest face, plane point, place and batch. `closest_face` of the Rust has the same operations and must agree by its bits;
 //! its projection is trigonometry where document 01 has dot products, so a place may differ near a hexagon's border, by the
 //! law in `allowance`. Every answer is also compared with document 01's own formulas, and there nothing may differ.
 use crate::{Tally, chance::Chance, ours, ours::{Said, Vector}, places};
@@ -447,6 +447,50 @@ pub fn run_place(tally: &mut Tally) {
     let mut seen = [Level::default(); 16];
     each(16_000_000, 16, |frame, v, level| place(tally, &mut seen, frame, v, level));
     table(&seen);
+}
+
+/// Document 01's plane point on a named face, or its refusal, the smallest number first.
+fn plane_by_rule(frame: &Frame, face: u32, level: u32, v: Vector) -> Result<(f64, f64), u32> {
+    match refusal(frame, level, v) {
+        1 => Err(1),
+        _ if face > 19 => Err(3),
+        0 => frame.point(face as usize, v, level),
+        n => Err(n),
+    }
+}
+
+/// The Rust's plane point on a face, from its squared distance.
+fn rust_point(frame: &Frame, face: usize, level: u32, v: Vector) -> Vec2d {
+    let centre = frame.part(face, 0);
+    let d = std::array::from_fn(|n| v[n] - centre[n]);
+    Vec2d::from_vec3d(vec3d(v), Resolution(level as u8), Face::new_unchecked(face), dot(d, d))
+}
+
+fn plane_point(tally: &mut Tally, apart: &mut Most, frame: &Frame, face: u32, level: u32, v: Vector) {
+    let rule = plane_by_rule(frame, face, level, v);
+    let theirs = rule.map_or_else(Said::refused, |(x, y)| Said::done([x.to_bits(), y.to_bits()]));
+    tally.same(ours::plane_point(&frame.numbers, face, level, v), theirs, || format!("plane point {face} {level} {v:?}"));
+    if let (true, Ok(point)) = (frame.default, rule) {
+        let rust = rust_point(frame, face as usize, level, v);
+        let far = (rust.x - point.0).hypot(rust.y - point.1);
+        tally.also(apart.note(far, allowance(v, level, point)), || format!("plane point {face} {level} {v:?}: {far:e} apart"));
+    }
+}
+
+/// The nearest face mostly, else any, and some that are none.
+fn some_face(c: &mut Chance, frame: &Frame, v: Vector) -> u32 {
+    match c.below(4) {
+        0 => c.below(22) as u32,
+        1 => [20, 255, 256, u32::MAX][c.below(4) as usize],
+        _ if frame.bad => c.below(20) as u32,
+        _ => frame.nearest(v).0 as u32,
+    }
+}
+
+pub fn run_plane_point(tally: &mut Tally) {
+    let (mut c, mut apart) = (Chance(24), Most::default());
+    each(8_000_000, 16, |frame, v, level| plane_point(tally, &mut apart, frame, some_face(&mut c, frame, v), level, v));
+    println!("  the Rust's plane points lie up to {:.1e} away, {:.2} of the allowance at most", apart.length, apart.part);
 }
 
 /// What stands in rows before a batch.

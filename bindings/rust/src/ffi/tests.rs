@@ -58,6 +58,72 @@ fn frame_wants_180() {
 }
 
 #[test]
+fn raise_refuses_2_4() {
+    refused(2, 0, |out| raise(16, out));
+    for level in [16, 17, 256, u32::MAX] {
+        refused(4, 1, |out| raise(level, out));
+    }
+    for level in 0..16 {
+        answers(&[level + level % 2], |out| raise(level, out));
+    }
+}
+
+#[test]
+fn grid_refuses_2_4() {
+    refused(2, 2, |out| grid(1, true, out));
+    for level in [1, 15, 17, 18, 256, u32::MAX] {
+        refused(4, 3, |out| grid(level, false, out));
+    }
+    answers(&[1, 2, 0], |out| grid(0, false, out));
+    answers(&[5764801, 11529602, 0], |out| grid(16, false, out));
+    answers(&[3 * 7, 6 * 7, 1], |out| grid(2, true, out));
+}
+
+#[test]
+fn reduce_refuses_2_alone() {
+    refused(2, 2, |out| reduce([1, 1, 1], out));
+    answers(&[0, 0, 0], |out| reduce([7, 7, 7], out));
+    answers(&[3, 0, 1], |out| reduce([5, 2, 3], out));
+    answers(&[u32::MAX, 0, 1], |out| reduce([u32::MAX, 0, 1], out));
+}
+
+#[test]
+fn map_refuses_2_5_10() {
+    refused(2, 2, |out| map(0, [1, 1, 1], out));
+    for number in [0, 6, 7, u32::MAX] {
+        refused(5, 3, |out| map(number, [1, 1, 1], out));
+    }
+    for number in 1..6 {
+        refused(10, 3, |out| map(number, [1, 1, 1], out));
+        refused(10, 3, |out| map(number, [(1 << 26) + 1, 0, 0], out));
+    }
+    // Where each row of the table sends i, and j.
+    for (number, of_i, of_j) in [
+        (1, [1, 1, 0], [0, 1, 1]),
+        (2, [1, 0, 1], [1, 1, 0]),
+        (3, [2, 0, 1], [1, 2, 0]),
+        (4, [2, 1, 0], [0, 2, 1]),
+        (5, [3, 1, 0], [0, 3, 1]),
+    ] {
+        answers(&of_i, |out| map(number, [1, 0, 0], out));
+        answers(&of_j, |out| map(number, [0, 1, 0], out));
+    }
+}
+
+#[test]
+fn alike_refuses_2_6() {
+    let near = 1.0 / 8388608.0;
+    refused(2, 0, |out| alike([f64::NAN, 0.0], [0.0; 2], out));
+    for bad in [f64::NAN, f64::INFINITY, f64::NEG_INFINITY] {
+        refused(6, 1, |out| alike([bad, 0.0], [bad, 0.0], out));
+        refused(6, 1, |out| alike([0.0; 2], [0.0, bad], out));
+    }
+    answers(&[1], |out| alike([0.0, 0.0], [near, -near], out));
+    answers(&[0], |out| alike([0.0, 0.0], [0.0, near.next_up()], out));
+    answers(&[0], |out| alike([f64::MAX, 0.0], [-f64::MAX, 0.0], out));
+}
+
+#[test]
 fn round_refuses_2_6_9() {
     refused(2, 2, |out| round(0.0, 0.0, out));
     refused(2, 2, |out| round(f64::NAN, 0.0, out));
@@ -188,6 +254,24 @@ fn bad_frames() -> Vec<Vec<f64>> {
     };
     let longer = [&frame[..], &[0.0]].concat();
     vec![vec![], frame[..179].to_vec(), longer, with(179, f64::NAN), with(3, 3.5), with(171, 2.0), vec![0.0; 180]]
+}
+
+#[test]
+fn plane_point_refuses_1_2_3_4_6_7_8() {
+    let frame = default_frame();
+    for bad in bad_frames() {
+        refused_doubles(1, 2, |out| plane_point(&bad, 20, 16, NAN3, out));
+        refused_doubles(1, 1, |out| plane_point(&bad, 20, 16, NAN3, out));
+    }
+    refused_doubles(2, 1, |out| plane_point(&frame, 20, 16, NAN3, out));
+    refused_doubles(3, 2, |out| plane_point(&frame, 20, 16, NAN3, out));
+    refused_doubles(4, 2, |out| plane_point(&frame, 19, 16, NAN3, out));
+    refused_doubles(6, 2, |out| plane_point(&frame, 19, 15, NAN3, out));
+    refused_doubles(7, 2, |out| plane_point(&frame, 19, 15, LONG, out));
+    refused_doubles(8, 2, |out| plane_point(&one_sided_frame(), 19, 15, [0.0, 0.0, -1.0], out));
+    answers_doubles(&[0.0, 0.0], |out| plane_point(&one_sided_frame(), 19, 15, [0.0, 0.0, 1.0], out));
+    answers_doubles(&[0.6 / 0.8, 0.0], |out| plane_point(&one_sided_frame(), 3, 0, [0.6, 0.0, 0.8], out));
+    answers_doubles(&[7.0 * (0.6 / 0.8), 0.0], |out| plane_point(&one_sided_frame(), 3, 2, [0.6, 0.0, 0.8], out));
 }
 
 #[test]

@@ -4,17 +4,17 @@ use native.Mathlib.Omega.{arith}
 use mathlib.Core.Path.{_≡_, refl, _∙_}
 use mathlib.Core.List.{List, _++_}
 use lib.Ieee.{Float}
-use lib.ListN.{length, drop}
+use lib.ListN.{drop}
 use Rattle.reply.specs.Replies.{answer}
 use Rattle.frame.specs.Default.{defaultFrame}
 use Rattle.frame.proofs.Length.{long}
-use Rattle.lent.specs.Lent.{bitsOf}
+use Rattle.lent.specs.Lent.{stored, bitsOf}
 use Rattle.lent.proofs.Lent.{short-doubles, answers-doubles}
 use Rattle.heddleplume.proofs.heddleplume_frame.Statement.{statement}
 use Rattle.heddleplume.proofs.heddleplume_frame.Tie as tie
 
 -- a copy of what is the frame is a copy of the frame
-copied : (from out after : List Float) → from ≡ defaultFrame → after ≡ from ++ drop (length from) out → after ≡ defaultFrame ++ drop 180 out
+copied : (from out after : List Float) → from ≡ defaultFrame → after ≡ stored out 0 from → after ≡ defaultFrame ++ drop 180 out
 copied from out after e w = w ∙ rw (e, long)
 
 returns : tie.Need-returns
@@ -25,8 +25,8 @@ returns-2 c =
     let p = c .before .before in
     let f = p .before .before .before in
     let out = f .before .before .before .args .out .now in
-    answers-doubles 180 out (f .before .if1 .left) (answer (bitsOf defaultFrame)) defaultFrame (p .put-all .last .0) refl
-    (copied (f .default-frame .result) out (p .put-all .last .0) (f .default-frame .ensures) (p .put-all .ensures))
+    answers-doubles 180 out (f .before .if1 .left) (answer (bitsOf defaultFrame)) defaultFrame (p .put-doubles .last .0) refl
+    (copied (f .default-frame .result) out (p .put-doubles .last .0) (f .default-frame .ensures) (p .put-doubles .ensures))
 
 pub heddleplume-frame-spec : {M : Type 1} → statement M
 heddleplume-frame-spec =

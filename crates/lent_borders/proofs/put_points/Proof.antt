@@ -25,11 +25,11 @@ loop-holds c = (omega arith, refl, refl)
 loop-again : tie.Need-loop-again Inv-loop μ-loop
 loop-again c =
     let p = c .before .before in
-    let loop = p .before .before .before .before .loop in
-    let a = p .before .before .before .before .before .before .args in (
+    let loop = p .before .before .before .before .before .loop in
+    let a = p .before .before .before .before .before .before .before .args in (
       omega arith,
       search needs,
-      p .put2-doubles-at .ensures ∙
+      p .put-doubles .ensures ∙
           store-more xys xyAt xys-snoc [] (a .t3) _ (a .out .now) (loop .out) (loop .v) (2 * loop .v) (2 * (loop .v + 1))
           (omega arith) (omega arith) (omega arith) (loop .inv .1) (loop .inv .2),
     )
@@ -45,5 +45,6 @@ returns c =
 pub put-points-spec : {M : Type 1} → statement M
 put-points-spec =
     tie.close
-    (tie.spec Inv-loop μ-loop loop-holds (λ c. search needs) (λ c. search needs) (λ c. search needs) (λ c κs. search needs) (λ c. search needs)
-    (λ c. search needs) loop-again (λ c. search needs) returns)
+    (tie.spec Inv-loop μ-loop loop-holds (λ c. search needs) (λ c. search needs) (λ c. search needs)
+    (λ c. search needs) (λ c κs. search needs) (λ c. search needs) (λ c. search needs) loop-again (λ c. search needs)
+    returns)

@@ -13,11 +13,11 @@ returns c = short-doubles 2 (c .before .before .before .args .out .now) _ _ (c .
 
 returns-2 : tie.Need-returns-2
 returns-2 c =
-    let b = c .before .before .before .before .before in
+    let b = c .before .before .before .before .before .before in
     let v = b .pointed .given .0 .0 in
-    answers-doubles 2 (b .before .before .before .before .before .before .args .out .now) (b .before .before .before .before .if1 .left) _ (v .x ∷ v .y ∷ []) (c .before .before .put2 .last .0)
+    answers-doubles 2 (b .before .before .before .before .before .before .args .out .now) (b .before .before .before .before .if1 .left) _ (v .x ∷ v .y ∷ []) (c .before .before .put-doubles .last .0)
     (ap saidPointed (sym (b .pointed .given .1)) ∙ (b .before .before .centre .ensures ∙ ap centreReply (b .before .before .before .new .ensures)))
-    (c .before .before .put2 .ensures)
+    (c .before .before .put-doubles .ensures)
 
 returns-3 : tie.Need-returns-3
 returns-3 c =
@@ -29,5 +29,6 @@ returns-3 c =
 pub centre-spec : {M : Type 1} → statement M
 centre-spec =
     tie.close
-    (tie.spec (λ c κs. search needs) returns (λ c κs. search needs) (λ c κs. search needs) (λ c. search needs) (λ c κs. search
-    needs) (λ c. search needs) (λ c κs. search needs) (λ c. search needs) returns-2 returns-3)
+    (tie.spec (λ c κs. search needs) returns (λ c κs. search needs) (λ c κs. search needs) (λ c. search needs)
+    (λ c. search needs) (λ c κs. search needs) (λ c. search needs) (λ c κs. search needs) (λ c. search needs) returns-2
+    returns-3)

@@ -15,13 +15,13 @@ returns c = short _ _ _ _ (c .before .if1 .taken) (c .number .ensures)
 
 returns-2 : tie.Need-returns-2
 returns-2 c =
-    let b = c .before .before .before .before .before .before in
+    let b = c .before .before .before .before .before .before .before in
     let a = b .before .before .before .before .before .before .args in
     let l = b .crossed .given .0 .0 in
     answers 5 _ (b .before .before .before .before .if1 .left) _ _ _
     (ap saidCrossed (sym (b .crossed .given .1)) ∙ (b .before .before .cross .ensures ∙ ap (λ (p : Place). crossReply p (a .level) (a .substrate) (a .turn)) (b .before .before .before .new .ensures)))
-    (c .before .before .put5 .ensures ∙
-    ap (λ (o : ℕ). (l .place .face ∷ l .place .i ∷ l .place .j ∷ l .place .k ∷ o ∷ []) ++ drop 5 (a .out .now)) (c .before .before .before .number2 .ensures))
+    (c .before .before .put .ensures ∙
+    ap (λ (o : ℕ). (l .place .face ∷ l .place .i ∷ l .place .j ∷ l .place .k ∷ o ∷ []) ++ drop 5 (a .out .now)) (c .before .before .before .before .before .number2 .ensures))
 
 returns-3 : tie.Need-returns-3
 returns-3 c =
@@ -35,5 +35,5 @@ pub cross-spec : {M : Type 1} → statement M
 cross-spec =
     tie.close
     (tie.spec (λ c κs. search needs) returns (λ c κs. search needs) (λ c κs. search needs) (λ c. search needs)
-    (λ c κs. search needs) (λ c κs. search needs) (λ c. search needs) (λ c κs. search needs) (λ c. search needs) returns-2
-    returns-3)
+    (λ c κs. search needs) (λ c. search needs) (λ c κs. search needs) (λ c. search needs) (λ c κs. search needs)
+    (λ c. search needs) returns-2 returns-3)

@@ -14,11 +14,11 @@ returns c = short _ _ _ _ (c .before .if1 .taken) (c .number .ensures)
 
 returns-2 : tie.Need-returns-2
 returns-2 c =
-    let b = c .before .before .before .before .before .before in
+    let b = c .before .before .before .before .before .before .before in
     let a = b .before .before .before .before .before .args in
     answers 1 _ (b .before .before .before .if1 .left) _ _ _
     (ap saidDirected (sym (b .directed .given .1)) ∙ (b .before .before .face-direction .ensures))
-    (c .before .before .put1 .ensures ∙ ap (λ (o : ℕ). (o ∷ []) ++ drop 1 (a .out .now)) (c .before .before .before .number2 .ensures))
+    (c .before .before .put .ensures ∙ ap (λ (o : ℕ). (o ∷ []) ++ drop 1 (a .out .now)) (c .before .before .before .before .before .number2 .ensures))
 
 returns-3 : tie.Need-returns-3
 returns-3 c =
@@ -32,4 +32,5 @@ pub direction-spec : {M : Type 1} → statement M
 direction-spec =
     tie.close
     (tie.spec (λ c κs. search needs) returns (λ c κs. search needs) (λ c. search needs) (λ c κs. search needs)
-    (λ c κs. search needs) (λ c. search needs) (λ c κs. search needs) (λ c. search needs) returns-2 returns-3)
+    (λ c. search needs) (λ c κs. search needs) (λ c. search needs) (λ c κs. search needs) (λ c. search needs) returns-2
+    returns-3)

@@ -12,10 +12,10 @@ returns c = short 3 _ (c .before .before .before .args .out .now) _ (omega arith
 
 returns-2 : tie.Need-returns-2
 returns-2 c =
-    let b = c .before .before .before .before .before in
+    let b = c .before .before .before .before .before .before in
     answers 3 _ (b .before .before .before .before .if1 .left) _ _ _
     (ap saidRounded (sym (b .rounded .given .1)) ∙ (b .before .before .to-ijk .ensures ∙ ap roundReply (b .before .before .before .new .ensures)))
-    (c .before .before .put3 .ensures)
+    (c .before .before .put .ensures)
 
 returns-3 : tie.Need-returns-3
 returns-3 c =
@@ -27,5 +27,6 @@ returns-3 c =
 pub round-spec : {M : Type 1} → statement M
 round-spec =
     tie.close
-    (tie.spec (λ c κs. search needs) returns (λ c κs. search needs) (λ c κs. search needs) (λ c. search needs) (λ c κs. search
-    needs) (λ c. search needs) (λ c κs. search needs) (λ c. search needs) returns-2 returns-3)
+    (tie.spec (λ c κs. search needs) returns (λ c κs. search needs) (λ c κs. search needs) (λ c. search needs)
+    (λ c. search needs) (λ c κs. search needs) (λ c. search needs) (λ c κs. search needs) (λ c. search needs) returns-2
+    returns-3)

@@ -16,17 +16,17 @@ returns c = short _ _ _ _ (c .before .if1 .taken) (c .number .ensures)
 
 returns-2 : tie.Need-returns-2
 returns-2 c =
-    let b = c .before .before .before .before in
+    let b = c .before .before .before .before .before in
     answers 1 _ (b .before .before .before .before .before .if1 .left) _ (1 ∷ []) _
     (ap saidSame (sym (b .enum-told .given .1)) ∙ (b .before .before .same-corner .ensures ∙ asked (b .before .before .before .before .new .ensures) (b .before .before .before .new2 .ensures)))
-    (c .before .before .put1 .ensures)
+    (c .before .before .put .ensures)
 
 returns-3 : tie.Need-returns-3
 returns-3 c =
-    let b = c .before .before .before .before in
+    let b = c .before .before .before .before .before in
     answers 1 _ (b .before .before .before .before .before .if1 .left) _ (0 ∷ []) _
     (ap saidSame (sym (b .enum-told2 .given .1)) ∙ (b .before .before .same-corner .ensures ∙ asked (b .before .before .before .before .new .ensures) (b .before .before .before .new2 .ensures)))
-    (c .before .before .put12 .ensures)
+    (c .before .before .put2 .ensures)
 
 returns-4 : tie.Need-returns-4
 returns-4 c =
@@ -39,5 +39,6 @@ pub same-corner-spec : {M : Type 1} → statement M
 same-corner-spec =
     tie.close
     (tie.spec (λ c κs. search needs) returns (λ c κs. search needs) (λ c κs. search needs) (λ c κs. search needs)
-    (λ c. search needs) (λ c κs. search needs) (λ c. search needs) (λ c κs. search needs) (λ c. search needs)
-    (λ c κs. search needs) (λ c. search needs) returns-2 (λ c. search needs) returns-3 returns-4)
+    (λ c. search needs) (λ c. search needs) (λ c κs. search needs) (λ c. search needs) (λ c. search needs)
+    (λ c κs. search needs) (λ c. search needs) (λ c κs. search needs) (λ c. search needs) returns-2 (λ c. search needs)
+    returns-3 returns-4)

@@ -12,11 +12,11 @@ returns c = short _ _ _ _ (c .before .if1 .taken) (c .number .ensures)
 
 returns-2 : tie.Need-returns-2
 returns-2 c =
-    let b = c .before .before .before .before .before .before .before .before .before in
+    let b = c .before .before .before .before .before .before .before .before .before .before in
     let a = b .before .before .before .before .before .before .args in
     answers 5 _ (b .before .before .before .before .if1 .left) _ _ _
     (ap saidSettled (sym (b .settled .given .1)) ∙ (b .before .before .settle .ensures ∙ ap (λ (p : Place). settleReply p (a .level) (a .substrate)) (b .before .before .before .new .ensures)))
-    (c .before .before .put5-wide .ensures)
+    (c .before .before .put-wide .ensures)
 
 returns-3 : tie.Need-returns-3
 returns-3 c =
@@ -30,5 +30,5 @@ pub settle-spec : {M : Type 1} → statement M
 settle-spec =
     tie.close
     (tie.spec (λ c κs. search needs) returns (λ c κs. search needs) (λ c κs. search needs) (λ c. search needs)
-    (λ c. search needs) (λ c. search needs) (λ c. search needs) (λ c. search needs) (λ c κs. search needs)
-    (λ c. search needs) (λ c κs. search needs) (λ c. search needs) returns-2 returns-3)
+    (λ c. search needs) (λ c. search needs) (λ c. search needs) (λ c. search needs) (λ c. search needs)
+    (λ c κs. search needs) (λ c. search needs) (λ c κs. search needs) (λ c. search needs) returns-2 returns-3)

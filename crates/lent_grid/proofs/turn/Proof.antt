@@ -12,11 +12,11 @@ returns c = short _ _ _ _ (c .before .if1 .taken) (c .number .ensures)
 
 returns-2 : tie.Need-returns-2
 returns-2 c =
-    let b = c .before .before .before .before .before in
+    let b = c .before .before .before .before .before .before in
     let a = b .before .before .before .before .before .before .args in
     answers 4 _ (b .before .before .before .before .if1 .left) _ _ _
     (ap saidMoved (sym (b .moved .given .1)) ∙ (b .before .before .turn .ensures ∙ ap (λ (p : Place). turnReply p (a .clockwise)) (b .before .before .before .new .ensures)))
-    (c .before .before .put4 .ensures)
+    (c .before .before .put .ensures)
 
 returns-3 : tie.Need-returns-3
 returns-3 c =
@@ -30,4 +30,5 @@ pub turn-spec : {M : Type 1} → statement M
 turn-spec =
     tie.close
     (tie.spec (λ c κs. search needs) returns (λ c κs. search needs) (λ c κs. search needs) (λ c. search needs)
-    (λ c κs. search needs) (λ c. search needs) (λ c κs. search needs) (λ c. search needs) returns-2 returns-3)
+    (λ c. search needs) (λ c κs. search needs) (λ c. search needs) (λ c κs. search needs) (λ c. search needs) returns-2
+    returns-3)

@@ -14,14 +14,14 @@ returns c =
 
 returns-2 : tie.Need-returns-2
 returns-2 c =
-    let b = c .before .before .before .before .before in
+    let b = c .before .before .before .before .before .before in
     let called = b .before .before .before in
     let e = called .before .before in
     let a = e .before .before .before .before .args in
     let rows = called .locate-all .last .1 .1 .1 .0 in
     batch-answers (a .frame .now) (a .level) (a .input .now) (a .first) (a .out .now) (a .refused .now) _ rows _ (e .if1 .left)
     (ap (λ (r : Batch). record { said = saidBatch r; rows = rows }) (sym (b .batch .given .1)) ∙ called .locate-all .ensures)
-    (c .before .before .put1-wide .ensures)
+    (c .before .before .put-wide .ensures)
 
 returns-3 : tie.Need-returns-3
 returns-3 c =
@@ -37,5 +37,6 @@ returns-3 c =
 pub batch-spec : {M : Type 1} → statement M
 batch-spec =
     tie.close
-    (tie.spec (λ c κs. search needs) returns (λ c κs. search needs) (λ c. search needs) (λ c κs. search needs) (λ c. search needs)
-    (λ c κs. search needs) (λ c. search needs) (λ c. search needs) returns-2 (λ c. search needs) returns-3)
+    (tie.spec (λ c κs. search needs) returns (λ c κs. search needs) (λ c. search needs) (λ c. search needs)
+    (λ c κs. search needs) (λ c. search needs) (λ c κs. search needs) (λ c. search needs) (λ c. search needs) returns-2
+    (λ c. search needs) returns-3)

@@ -10,12 +10,12 @@ use Rattle.lent_places.proofs.Ending.{nearest-short, nearest-answers, n
 use Rattle.lent_places.proofs.nearest.Statement.{statement}
 use Rattle.lent_places.proofs.nearest.Tie as tie
 
-put1-requires : tie.Need-put1-requires
-put1-requires c κs = ltb-false _ 1 (neither _ _ (c .before .before .before .before .before .before .if1 .left) .0)
+put-requires : tie.Need-put-requires
+put-requires c κs = ltb-false _ 1 (neither _ _ (c .before .before .before .before .before .before .before .if1 .left) .0)
 
-put1-double-requires : tie.Need-put1-double-requires
-put1-double-requires c κs =
-    let e = c .before .before .before .before .before .before .before .before .before .before in
+put-doubles-requires : tie.Need-put-doubles-requires
+put-doubles-requires c κs =
+    let e = c .before .before .before .before .before .before .before .before .before .before .before .before in
     ltb-false _ 1 (neither (ltb (length (e .before .before .before .before .args .face .now)) 1) _ (e .if1 .left) .1)
 
 returns : tie.Need-returns
@@ -25,13 +25,13 @@ returns c =
 
 returns-2 : tie.Need-returns-2
 returns-2 c =
-    let b = c .before .before .before .before .before .before .before .before .before in
+    let b = c .before .before .before .before .before .before .before .before .before .before .before in
     let e = b .before .before .before .before in
     let a = e .before .before .before .before .args in
-    nearest-answers (a .frame .now) _ (a .face .now) (a .distance .now) (b .nearest .given .0 .0) _ (c .before .before .put1-double .last .0) (e .if1 .left)
+    nearest-answers (a .frame .now) _ (a .face .now) (a .distance .now) (b .nearest .given .0 .0) _ (c .before .before .put-doubles .last .0) (e .if1 .left)
     (ap saidNearest (sym (b .nearest .given .1)) ∙
     (b .before .before .nearest-face .ensures ∙ ap (nearestReply (a .frame .now)) (b .before .before .before .new .ensures)))
-    (c .before .before .before .before .before .before .put1 .ensures) (c .before .before .put1-double .ensures)
+    (c .before .before .before .before .before .before .before .put .ensures) (c .before .before .put-doubles .ensures)
 
 returns-3 : tie.Need-returns-3
 returns-3 c =
@@ -46,5 +46,6 @@ returns-3 c =
 pub nearest-spec : {M : Type 1} → statement M
 nearest-spec =
     tie.close
-    (tie.spec (λ c κs. search needs) returns (λ c κs. search needs) (λ c κs. search needs) (λ c. search needs) put1-requires
-    put1-double-requires (λ c. search needs) (λ c κs. search needs) (λ c. search needs) (λ c. search needs) returns-2 returns-3)
+    (tie.spec (λ c κs. search needs) returns (λ c κs. search needs) (λ c κs. search needs) (λ c. search needs)
+    (λ c. search needs) put-requires (λ c. search needs) put-doubles-requires (λ c. search needs)
+    (λ c κs. search needs) (λ c. search needs) (λ c. search needs) returns-2 returns-3)

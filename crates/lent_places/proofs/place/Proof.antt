@@ -12,13 +12,13 @@ returns c = short-framed _ 4 (c .before .before .before .before .args .out .now)
 
 returns-2 : tie.Need-returns-2
 returns-2 c =
-    let b = c .before .before .before .before .before in
+    let b = c .before .before .before .before .before .before in
     let e = b .before .before .before .before in
     let a = e .before .before .before .args in
     answers-framed _ 4 _ (e .if1 .left) _ _ _ _
     (ap saidLocated (sym (b .located .given .1)) ∙
     (b .before .before .locate .ensures ∙ ap (locateReply (a .frame .now) (a .level)) (b .before .before .before .new .ensures)))
-    (c .before .before .put4 .ensures)
+    (c .before .before .put .ensures)
 
 returns-3 : tie.Need-returns-3
 returns-3 c =
@@ -33,5 +33,6 @@ returns-3 c =
 pub place-spec : {M : Type 1} → statement M
 place-spec =
     tie.close
-    (tie.spec (λ c κs. search needs) returns (λ c κs. search needs) (λ c κs. search needs) (λ c. search needs) (λ c κs. search
-    needs) (λ c. search needs) (λ c κs. search needs) (λ c. search needs) returns-2 returns-3)
+    (tie.spec (λ c κs. search needs) returns (λ c κs. search needs) (λ c κs. search needs) (λ c. search needs)
+    (λ c. search needs) (λ c κs. search needs) (λ c. search needs) (λ c κs. search needs) (λ c. search needs) returns-2
+    returns-3)
