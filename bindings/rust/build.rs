@@ -48,11 +48,12 @@ fn watch(path: &Path) {
 fn main() {
     println!("cargo::rerun-if-env-changed=HEDDLEPLUME_LIB_DIR");
     watch(Path::new("build.rs"));
-    ["crates", "crates.txt", "bindings/library"]
-        .map(|name| top().join(name))
-        .iter()
-        .filter(|path| path.exists())
-        .for_each(|path| watch(path));
+    // Only what is there: a path that is not would make cargo run this each time.
+    for path in ["crates", "crates.txt", "bindings/library"].map(|name| top().join(name)) {
+        if path.exists() {
+            watch(&path);
+        }
+    }
     let named = env::var_os("HEDDLEPLUME_LIB_DIR").filter(|folder| !folder.is_empty()).map(PathBuf::from);
     if let Some(folder) = &named {
         watch(&folder.join(LIBRARY));

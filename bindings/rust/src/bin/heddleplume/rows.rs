@@ -94,3 +94,30 @@ fn write_digits(text: &mut Vec<u8>, mut number: u32) {
     }
     text.extend_from_slice(&digits[first..]);
 }
+
+#[cfg(test)]
+mod tests {
+    use super::*;
+
+    #[test]
+    fn digits() {
+        for number in [0, 9, 10, 4095, 1_000_000_000, u32::MAX] {
+            let mut text = Vec::new();
+            write_digits(&mut text, number);
+            assert_eq!(text, number.to_string().as_bytes());
+        }
+    }
+
+    #[test]
+    fn a_block_is_used_again() {
+        let (frame, mut block, mut tally, mut output) = (Frame::default(), Block::new(), Tally::default(), Vec::new());
+        for vectors in [[Some([1.0, 0.0, 0.0]), None, Some([f64::NAN; 3])], [None, None, Some([1.0, 0.0, 0.0])]] {
+            vectors.into_iter().for_each(|vector| block.push(vector));
+            block.answer(&frame, CellLevel(9), &mut output, &mut tally).unwrap();
+        }
+        block.answer(&frame, CellLevel(9), &mut output, &mut tally).unwrap();
+        let (place, line) = ("9,0,3944,11640\n", "refused,14,BadLine,\n");
+        assert_eq!(String::from_utf8(output).unwrap(), format!("{place}{line}refused,6,BadNumber,\n{line}{line}{place}"));
+        assert!(tally.report().starts_with("rows: 6, refused: 4\n  1: refused 6 BadNumber: "));
+    }
+}
