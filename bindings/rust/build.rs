@@ -31,16 +31,13 @@ fn made(top: &Path) -> PathBuf {
     if !run.status.success() {
         fail(&format!("there is no library to link ({})", run.status));
     }
-    let folder: PathBuf = String::from_utf8_lossy(&run.stdout).trim_end().into();
     for note in said.lines().filter_map(|line| line.strip_prefix("note: ")) {
         println!("cargo::warning={note}");
-        watch(&folder.join(LIBRARY));
     }
-    folder
+    String::from_utf8_lossy(&run.stdout).trim_end().into()
 }
 
-/// Makes cargo run this again after a change. The library is watched only where it is not made here: one that this run has made is
-/// younger than the run, and cargo would start again each time.
+/// Makes cargo run this again after a change.
 fn watch(path: &Path) {
     println!("cargo::rerun-if-changed={}", path.display());
 }
@@ -55,13 +52,13 @@ fn main() {
         }
     }
     let named = env::var_os("HEDDLEPLUME_LIB_DIR").filter(|folder| !folder.is_empty()).map(PathBuf::from);
-    if let Some(folder) = &named {
-        watch(&folder.join(LIBRARY));
-    }
     let folder = named.unwrap_or_else(|| made(&top()));
-    if !folder.join(LIBRARY).is_file() {
-        fail(&format!("there is no {}", folder.join(LIBRARY).display()));
+    let library = folder.join(LIBRARY);
+    if !library.is_file() {
+        fail(&format!("there is no {}", library.display()));
     }
+    // One that this run has made is younger than the run, so that cargo comes here once more, and then finds nothing to make.
+    watch(&library);
     println!("cargo::rustc-link-search=native={}", folder.display());
     println!("cargo::rustc-link-lib=static=heddleplume");
 }
