@@ -32,7 +32,7 @@ pub enum Refusal {
     NotAdjacent = 12,
     /// Two lines do not meet.
     NoCrossing = 13,
-    /// The input of `walk` is malformed. No function of this crate gives it.
+    /// A line of text cannot be read. No function of this crate gives it, but its program does, of a batch's lines.
     BadLine = 14,
 }
 
@@ -78,10 +78,10 @@ impl Refusal {
             Refusal::Behind => "the frame is no icosahedron, load the frame again",
             Refusal::TooFar => "the point lies on no face, check where it comes from",
             Refusal::NotReduced => "subtract the least coordinate from all three first",
-            Refusal::OutOfFace => "cross or settle the centre first",
+            Refusal::OutOfFace => "at an even level settle the centre first; at an odd level such a cell has no border here",
             Refusal::NotAdjacent => "name the pentagon on a face where it lies on the i axis; the border of any other cell is a hexagon's",
             Refusal::NoCrossing => "check the ends of the lines, which are parallel or too large",
-            Refusal::BadLine => "write one line: face, level, p or s, i, j, k",
+            Refusal::BadLine => "write the line as the help shows it",
         }
     }
 }

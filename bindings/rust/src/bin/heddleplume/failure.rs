@@ -1,0 +1,56 @@
+//! Why there is no answer: in words that say what to do, and as an exit status.
+use std::fmt;
+use std::io::{self, ErrorKind};
+
+use heddleplume::Refusal;
+
+use crate::help;
+
+#[derive(Debug)]
+pub enum Failure {
+    /// The words are no question.
+    Usage(String),
+    /// The library refused the question, or the whole batch.
+    Refused(Refusal),
+    /// The input could not be read.
+    Read(io::Error),
+    /// The output could not be written.
+    Written(io::Error),
+}
+
+impl Failure {
+    pub fn status(&self) -> u8 {
+        match self {
+            Failure::Usage(_) => 2,
+            Failure::Refused(_) | Failure::Read(_) | Failure::Written(_) => 1,
+        }
+    }
+
+    /// The same, with the form of the question that was meant.
+    pub fn about(self, name: &str) -> Failure {
+        match (self, help::entry_of(name)) {
+            (Failure::Usage(what), Some(entry)) => Failure::Usage(format!("{what}\n{}", entry.usage())),
+            (failure, _) => failure,
+        }
+    }
+}
+
+impl From<Refusal> for Failure {
+    fn from(refusal: Refusal) -> Failure {
+        Failure::Refused(refusal)
+    }
+}
+
+impl fmt::Display for Failure {
+    fn fmt(&self, f: &mut fmt::Formatter<'_>) -> fmt::Result {
+        match self {
+            Failure::Usage(what) => write!(f, "{what}\n`heddleplume --help` lists the questions and how numbers are written"),
+            Failure::Refused(refusal) => write!(f, "{refusal}"),
+            Failure::Read(error) => write!(f, "the input could not be read, so the answers are not whole: {error}"),
+            Failure::Written(error) if error.kind() == ErrorKind::BrokenPipe => {
+                write!(f, "the output is not whole: the program that reads it has stopped")
+            }
+            Failure::Written(error) => write!(f, "the output could not be written and is not whole: {error}; make room and ask again"),
+        }
+    }
+}

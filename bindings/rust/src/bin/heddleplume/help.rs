@@ -1,0 +1,91 @@
+//! What can be asked: the one list from which the help is printed and usage errors are explained.
+use crate::failure::Failure;
+
+pub struct Entry {
+    name: &'static str,
+    /// The words that follow the name.
+    form: &'static str,
+    /// Such words.
+    example: &'static str,
+    /// What is answered.
+    answer: &'static str,
+}
+
+const fn entry(name: &'static str, form: &'static str, example: &'static str, answer: &'static str) -> Entry {
+    Entry { name, form, example, answer }
+}
+
+static ENTRIES: [Entry; 15] = [
+    entry("place", "LEVEL X Y Z", "9 0.6 0 0.8", "face i j k: the place of a unit vector"),
+    entry("nearest", "X Y Z", "0.6 0 0.8", "the nearest face, and the squared distance from its centre"),
+    entry("border", "FACE LEVEL I J K [START LENGTH]", "0 1 1 0 0", "a hexagon's border: face x y corner|crossing of each point"),
+    entry("pentagon", "FACE LEVEL I J K [START LENGTH]", "0 1 6 0 2", "a pentagon's border, in the same form"),
+    entry("corners", "FACE LEVEL I J K", "0 0 1 0 0", "the grid level of a cell's corners, then i j k of each of the six"),
+    entry("round", "X Y", "0.5 -0.5", "i j k: the hexagon of a plane point"),
+    entry("centre", "I J K", "1 1 0", "x y: the centre of a hexagon"),
+    entry("meet", "X Y X Y X Y X Y", "0 0 2 2 0 2 2 0", "x y: where two lines meet, each through two points"),
+    entry("direction", "FACE FACE", "0 4", "where the second lies: 0 itself, 1, 2, 3 over that edge, 7 elsewhere"),
+    entry("turn", "FACE I J K ccw|cw", "0 1 0 0 ccw", "face i j k: the place after a sixth of a turn"),
+    entry("step", "FACE LEVEL p|s I J K EDGE", "0 0 p 3 0 0 1", "face i j k: the place named from over edge 1, 2 or 3"),
+    entry("cross", "FACE LEVEL p|s I J K yes|no", "0 0 p 3 0 0 no", "face i j k None|FaceEdge|NewFace: one crossing; yes: pentagon turn"),
+    entry("settle", "FACE LEVEL p|s I J K", "0 0 p 3 0 0", "face i j k steps: crossings until the place lies on its face"),
+    entry("same", "FACE I J K FACE I J K", "0 2 0 0 4 2 0 0", "yes or no: whether two corners are one"),
+    entry("batch", "LEVEL", "9 <vectors.csv >places.csv", "a whole file: for each line x,y,z a line face,i,j,k"),
+];
+
+const TOP: &str = "\
+heddleplume: which face of the icosahedron, and which hexagon on it, a place on Earth lies in
+
+  heddleplume QUESTION WORDS..                        one question
+  heddleplume batch LEVEL <vectors.csv >places.csv    a whole file
+  heddleplume help QUESTION                           its form and an example
+  heddleplume --version
+
+";
+
+const BOTTOM: &str = "
+A vector has length 1. Of a latitude and a longitude it is
+  x = cos(lat) cos(lon), y = cos(lat) sin(lon), z = sin(lat)
+Doubles are decimals, as 0.6, -1e-3 or nan. The nearest double is taken; the shortest decimal that reads back
+as the same double is answered. LEVEL is a cell level 0..15, in step, cross and settle an even grid level
+0..16. p is the grid of the cells, s that of their corners. A border has all corners of the cell, or LENGTH
+of them from corner START on; each point has a line of its own.
+
+batch answers each line x,y,z by one line, in order. Each has four columns:
+  9,0,3944,11640          face,i,j,k
+  refused,6,BadNumber,    the word, the refusal's number and name, nothing
+A line that is not three numbers is refused too: 14, BadLine. A first line that holds no number is a header,
+and a header answers it. Standard error says how many lines were refused, and what to do about them.
+
+It ends with 0 if it answered (a batch: to the end, whatever was refused), with 1 if the question was refused
+or the input or output failed, with 2 if the words are no question.";
+
+impl Entry {
+    pub fn usage(&self) -> String {
+        format!("usage: heddleplume {0} {1}\nfor example: heddleplume {0} {2}", self.name, self.form, self.example)
+    }
+}
+
+pub fn entry_of(name: &str) -> Option<&'static Entry> {
+    ENTRIES.iter().find(|entry| entry.name == name)
+}
+
+/// Why a name is no question.
+pub fn unknown(name: &str) -> Failure {
+    Failure::Usage(format!("there is no question `{name}`"))
+}
+
+/// The whole help.
+pub fn whole() -> String {
+    let line = |entry: &Entry| format!("  {:<41}{}\n", format!("{} {}", entry.name, entry.form), entry.answer);
+    format!("{TOP}{}{BOTTOM}", ENTRIES.iter().map(line).collect::<String>())
+}
+
+/// The help on the question that is named, or all of it.
+pub fn on(words: &[String]) -> Result<String, Failure> {
+    match words {
+        [] => Ok(whole()),
+        [name] => entry_of(name).map(|entry| format!("{}\nanswer: {}", entry.usage(), entry.answer)).ok_or_else(|| unknown(name)),
+        _ => Err(Failure::Usage("help takes one question".into())),
+    }
+}

@@ -1,0 +1,71 @@
+//! Each question with its known answer, and with its refusals.
+use super::asked;
+
+fn answers(words: &str, answer: &str) {
+    assert_eq!(asked(words), (Some(0), format!("{answer}\n"), String::new()), "{words}");
+}
+
+fn refuses(words: &str, refusal: &str) {
+    let (status, printed, said) = asked(words);
+    assert_eq!((status, printed.as_str()), (Some(1), ""), "{words}");
+    assert!(said.starts_with(&format!("heddleplume: refused {refusal}: ")) && said.lines().count() == 1, "{words}: {said}");
+}
+
+#[test]
+fn vectors() {
+    answers("place 9 1 0 0", "9 0 3944 11640");
+    answers("place 9 0.6 0 0.8", "3 9433 0 4829");
+    answers("place 9 0.6 -0 8e-1", "3 9433 0 4829");
+    answers("nearest 0.6 0 0.8", "3 0.2048909739668598");
+    refuses("place 16 1 0 0", "4 BadLevel");
+    refuses("place 9 nan nan nan", "6 BadNumber");
+    refuses("place 9 1e999 0 0", "6 BadNumber");
+    refuses("place 9 0 0 0", "7 OffSphere");
+    refuses("nearest 2 0 0", "7 OffSphere");
+}
+
+#[test]
+fn the_plane() {
+    answers("round 0.5 -0.5", "1 0 1");
+    answers("round -0.9 -0.9", "0 0 1");
+    answers("centre 0 2 0", "-1 1.7320508075688772");
+    answers("meet 0 0 2 2 0 2 2 0", "1 1");
+    answers("meet 0 0 1 0 -1e-300 1 -1e-300 -1", &format!("-0.{}1 0", "0".repeat(299)));
+    refuses("round 33554432 0", "9 TooFar");
+    refuses("centre 1 1 1", "10 NotReduced");
+    refuses("meet 0 0 1 0 0 1 1 1", "13 NoCrossing");
+}
+
+#[test]
+fn places() {
+    answers("direction 0 4", "1");
+    answers("direction 0 19", "7");
+    answers("turn 3 1 0 0 ccw", "3 1 1 0");
+    answers("turn 3 1 0 0 cw", "3 1 0 1");
+    answers("step 0 0 p 3 0 0 1", "4 3 1 0");
+    answers("cross 0 0 p 3 0 0 no", "4 3 1 0 NewFace");
+    answers("cross 0 0 s 3 3 0 no", "0 3 3 0 FaceEdge");
+    answers("cross 0 2 p 14 0 1 yes", "1 14 1 0 NewFace");
+    answers("settle 0 0 p 3 0 0", "2 1 0 0 3");
+    answers("same 3 5 2 0 3 5 2 0", "yes");
+    answers("same 0 2 0 0 4 2 0 0", "no");
+    refuses("direction 0 20", "3 BadFace");
+    refuses("step 0 0 p 3 0 0 9", "5 BadRange");
+    refuses("step 20 0 p 3 0 0 9", "3 BadFace");
+    refuses("settle 0 1 p 3 0 0", "4 BadLevel");
+}
+
+#[test]
+fn cells() {
+    answers("corners 0 0 1 0 0", "0\n5 1 0\n4 2 0\n2 1 0\n2 0 1\n4 0 2\n5 0 1");
+    answers("border 0 0 1 0 0 0 2", "0 4.5 0.8660254037844386 corner\n0 3 1.7320508075688772 corner");
+    let pentagon = "3 37.5 0.8660254037844386 corner\n3 38.5 -2.0207259421636934 crossing\n4 37.5 0.8660254037844386 corner";
+    answers("pentagon 0 1 6 0 2 0 2", pentagon);
+    assert_eq!(asked("border 0 1 1 0 0"), asked("border 0 1 1 0 0 0 6"));
+    assert_eq!(asked("pentagon 0 1 6 0 2"), asked("pentagon 0 1 6 0 2 0 5"));
+    assert_eq!(asked("border 0 1 1 0 0").1.lines().count(), 6);
+    assert_eq!(asked("pentagon 0 1 6 0 2").1.lines().count(), 10);
+    refuses("border 0 0 3 0 0", "11 OutOfFace");
+    refuses("border 0 0 1 0 0 6 6", "5 BadRange");
+    refuses("pentagon 0 1 0 0 0 0 2", "12 NotAdjacent");
+}
