@@ -12,7 +12,7 @@ use Rattle.reply.specs.declared.Refusal.{Refusal}
 use Rattle.reply.specs.declared.Refusal.the-variants.{NotAdjacent, NoCrossing}
 use Rattle.reply.specs.declared.Verdict.{Verdict}
 use Rattle.level.specs.declared.Grid.{Grid}
-use Rattle.level.proofs.Computed.{at}
+use Rattle.level.proofs.Computed.{is-false, at}
 use Rattle.faceijk.specs.declared.Place.{Place}
 use Rattle.faceijk.specs.declared.Landed.{Landed}
 use Rattle.faceijk.specs.declared.Overage.{Overage}
@@ -33,10 +33,6 @@ use Rattle.boundary.proofs.CrossingRefusals.{Fair, none, either, other,
 use Rattle.boundary.proofs.CornerFaces.{asked-fit}
 
 -- the direction to the face over an edge is an edge: computed over all faces
-is-false : (b : Bool) → T (not b) → b ≡ false
-is-false true t = absurd t
-is-false false t = refl
-
 abbrev leads : ℕ → ℕ → Bool
 leads e f = not (badEdge (dirTo f (faceOver f e)))
 

@@ -7,7 +7,7 @@ use native.Mathlib.Omega.{arith}
 use lib.Dec.{T, eqb, ltb, eqb→eq, ltb→lt}
 use borrow.Author.Tests.{ltb-true}
 use Rattle.reply.specs.Choice.{pick}
-use Rattle.level.proofs.Computed.{left, right, all, at}
+use Rattle.level.proofs.Computed.{is-false, left, right, all, at}
 use Rattle.faceijk.specs.Faces.{faceOver, dirTo}
 use Rattle.faceijk.specs.Steps.{polar}
 
@@ -29,10 +29,6 @@ same a b = pick a b (not b)
 abbrev mate : ℕ → ℕ → ℕ → ℕ → Bool
 mate f e g b =
     ltb g 20 && (eqb (faceOver g b) f && (eqb (dirTo g f) b && (not (eqb g f) && same (pick (eqb e 3) (polar f) (polar g)) (polar f))))
-
-is-false : (b : Bool) → T (not b) → b ≡ false
-is-false true t = absurd t
-is-false false t = refl
 
 is-same : (a b : Bool) → T (same a b) → a ≡ b
 is-same true true t = refl

@@ -32,6 +32,10 @@ answers n v vs x f e = e ∙ ap (λ (w : Verdict). reply n w vs) (sym f)
 pub refuses : (n : ℕ) (v : Verdict) (vs : List ℕ) (r : Refusal) → v ≡ Refused r → refusal n r ≡ reply n v vs
 refuses n v vs r f = ap (λ (w : Verdict). reply n w vs) (sym f)
 
+-- what two replies that are one hold
+pub values : {a b : Reply} → a ≡ b → a .values ≡ b .values
+values e = ap (λ (x : Reply). x .values) e
+
 -- no answer says what a refusal says, and two refusals that say the same are one
 pub answer-or-refusal : {A : Type 0} (n : ℕ) (vs : List ℕ) (r : Refusal) → answer vs ≡ refusal n r → A
 answer-or-refusal n vs r e = let z : 0 ≡ numberOf r = ap (λ (x : Reply). x .number) e in absurd (omega (arith, number-pos r))
@@ -41,7 +45,7 @@ same-refusal n a b e = same-number a b (ap (λ (x : Reply). x .number) e)
 
 -- what a caller learns: an answer means that nothing was found and has the values, a refusal is the one that was found
 pub answered : (n : ℕ) (v : Verdict) (vs ws : List ℕ) → answer vs ≡ reply n v ws → (v ≡ Fine) × (vs ≡ ws)
-answered n Fine vs ws e = (refl, ap (λ (x : Reply). x .values) e)
+answered n Fine vs ws e = (refl, values e)
 answered n (Refused r) vs ws e = answer-or-refusal n vs r e
 
 pub refused : (n : ℕ) (v : Verdict) (r : Refusal) (ws : List ℕ) → refusal n r ≡ reply n v ws → v ≡ Refused r
