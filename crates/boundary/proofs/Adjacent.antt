@@ -5,14 +5,15 @@ use mathlib.Core.Logic.{⊎-elim}
 use Prim.Native.Nat.{ℕ, zero, suc, _≤_, _<_}
 use native.Mathlib.Nat.{not-suc-le-zero}
 use native.Mathlib.Omega.{arith}
-use lib.Dec.{T, ltb, eqb}
+use lib.Dec.{ltb, eqb}
+use lib.Ieee.Bits.{is-false}
 use borrow.Author.Tests.{eq-eqb, ne-eqb, eqb-false}
 use Rattle.reply.specs.Choice.{pick}
 use Rattle.reply.specs.declared.Refusal.{Refusal}
 use Rattle.reply.specs.declared.Refusal.the-variants.{NotAdjacent, NoCrossing}
 use Rattle.reply.specs.declared.Verdict.{Verdict}
 use Rattle.level.specs.declared.Grid.{Grid}
-use Rattle.level.proofs.Computed.{is-false, at}
+use Rattle.level.proofs.Computed.{at}
 use Rattle.faceijk.specs.declared.Place.{Place}
 use Rattle.faceijk.specs.declared.Landed.{Landed}
 use Rattle.faceijk.specs.declared.Overage.{Overage}

@@ -1,8 +1,8 @@
 -- How an entry's answer meets its reply: the answer where its tests found nothing, the refusal that they found else. Assumes nothing.
 use mathlib.Core.Path.{_≡_, refl, sym, ap, _∙_}
-use mathlib.Core.Bool.{Bool, true, false, true≢false, _||_}
+use mathlib.Core.Bool.{Bool, true, false, true≢false, false≢true, _&&_, _||_}
 use mathlib.Core.List.{List}
-use Prim.Native.Nat.{ℕ, _<_}
+use Prim.Native.Nat.{ℕ}
 use native.Mathlib.Omega.{arith}
 use Rattle.reply.specs.Choice.{pick}
 use Rattle.reply.specs.declared.Refusal.{Refusal}
@@ -25,6 +25,11 @@ found false r s e = let z : _≡_ {A = ℕ} 0 1 = cc in absurd (omega arith)
 pub neither : (a b : Bool) → (a || b) ≡ false → (a ≡ false) × (b ≡ false)
 neither true b e = absurd (true≢false e)
 neither false b e = (refl, e)
+
+-- and one that passes
+pub both : (a b : Bool) → (a && b) ≡ true → (a ≡ true) × (b ≡ true)
+both true b e = (refl, e)
+both false b e = absurd (false≢true e)
 
 pub answers : (n : ℕ) (v : Verdict) (vs : List ℕ) (x : Reply) → v ≡ Fine → x ≡ answer vs → x ≡ reply n v vs
 answers n v vs x f e = e ∙ ap (λ (w : Verdict). reply n w vs) (sym f)
