@@ -213,11 +213,8 @@ impl Cell {
         ensures { λ r. ⌜ r ≡ cornerOf (self .odd) (coordOf (self .centre)) v ⌝ }
     {
         let o = self.offset(v);
-        CoordIJK::new(
-            self.centre.i + o.i,
-            self.centre.j + o.j,
-            self.centre.k + o.k,
-        ).reduce()
+        let c = self.centre;
+        CoordIJK::new(c.i + o.i, c.j + o.j, c.k + o.k).reduce()
     }
 
     fn corners(self) -> [CoordIJK; 6]

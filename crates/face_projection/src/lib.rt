@@ -54,15 +54,11 @@ impl FaceProjection {
     {
         let scale = power(level);
         if level % 2 == 0 {
-            return Vec2d {
-                x: self.x0 * scale,
-                y: self.y0 * scale,
-            };
+            return Vec2d::new(self.x0 * scale, self.y0 * scale);
         }
-        Vec2d {
-            x: scale * (2.5 * self.x0 + Vec2d::SIN60 * self.y0),
-            y: scale * (2.5 * self.y0 - Vec2d::SIN60 * self.x0),
-        }
+        let x = 2.5 * self.x0 + Vec2d::SIN60 * self.y0;
+        let y = 2.5 * self.y0 - Vec2d::SIN60 * self.x0;
+        Vec2d::new(scale * x, scale * y)
     }
 }
 

@@ -88,12 +88,7 @@ pub enum OnGrid {
 fn placed(face: u32, c: CoordIJK) -> Place
     ensures { λ r. ⌜ r ≡ place face c ⌝ }
 {
-    Place {
-        face,
-        i: c.i,
-        j: c.j,
-        k: c.k,
-    }
+    Place::new(face, c.i, c.j, c.k)
 }
 
 fn landing(place: Place, overage: Overage) -> Landed
@@ -193,10 +188,7 @@ pub fn back_edge(face: u32, edge: u32) -> u32
 pub fn face_direction(from: u32, to: u32) -> Directed
     ensures { λ r. ⌜ saidDirected r ≡ directionReply from to ⌝ }
 {
-    if Place::LAST_FACE < from {
-        return Directed::Refused(Refusal::BadFace);
-    }
-    if Place::LAST_FACE < to {
+    if (Place::LAST_FACE < from) | (Place::LAST_FACE < to) {
         return Directed::Refused(Refusal::BadFace);
     }
     Directed::Done(direction_to(from, to))
