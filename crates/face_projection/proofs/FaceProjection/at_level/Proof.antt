@@ -1,11 +1,11 @@
 -- `FaceProjection::at_level` meets its contract: half of an odd level is half of the even one before it. Assumes nothing.
 use borrow.Author.Needs.{needs}
 use borrow.Author.Tests.{eq-eqb, ne-eqb}
-use mathlib.Core.Path.{_≡_, ap, _∙_}
-use Prim.Native.Nat.{ℕ, _-_, _/_}
+use mathlib.Core.Path.{_≡_}
+use Prim.Native.Nat.{_-_, _/_}
 use native.Mathlib.Omega.{arith}
 use lib.Ieee.{ofBits}
-use Rattle.face_projection.specs.Projection.{sevenTo, evenLevel, oddLevel, atLevel}
+use Rattle.face_projection.specs.Projection.{evenLevel, oddLevel, atLevel}
 use Rattle.face_projection.proofs.FaceProjection.at_level.Statement.{statement}
 use Rattle.face_projection.proofs.FaceProjection.at_level.Tie as tie
 
