@@ -5,7 +5,8 @@ use mathlib.Core.Logic.{⊎-elim}
 use Prim.Native.Nat.{ℕ, zero, suc, _≤_, _<_}
 use native.Mathlib.Nat.{not-suc-le-zero}
 use native.Mathlib.Omega.{arith}
-use lib.Dec.{T, ltb, eqb}
+use lib.Dec.{ltb, eqb}
+use lib.Ieee.Bits.{is-false}
 use borrow.Author.Tests.{eq-eqb, ne-eqb, eqb-false}
 use Rattle.reply.specs.Choice.{pick}
 use Rattle.reply.specs.declared.Refusal.{Refusal}
@@ -33,10 +34,6 @@ use Rattle.boundary.proofs.CrossingRefusals.{Fair, none, either, other,
 use Rattle.boundary.proofs.CornerFaces.{asked-fit}
 
 -- the direction to the face over an edge is an edge: computed over all faces
-is-false : (b : Bool) → T (not b) → b ≡ false
-is-false true t = absurd t
-is-false false t = refl
-
 abbrev leads : ℕ → ℕ → Bool
 leads e f = not (badEdge (dirTo f (faceOver f e)))
 

@@ -4,7 +4,8 @@ use mathlib.Core.Bool.{Bool, true, false, _&&_}
 use Prim.Native.Nat.{ℕ, _+_, _*_, _<_}
 use native.Mathlib.Omega.{arith}
 use lib.Dec.{T, leb, leb→le}
-use Rattle.level.proofs.Computed.{left, right, at}
+use lib.Ieee.Fits.{and-l, and-r}
+use Rattle.level.proofs.Computed.{at}
 use Rattle.coordijk.specs.declared.CoordIJK.{CoordIJK}
 use Rattle.coordijk.specs.declared.GridMap.the-variants.{Aperture3Ccw, Aperture3Cw, Aperture7Cw}
 use Rattle.coordijk.specs.Coordinates.{coord, least, reduced, Taken}
@@ -57,8 +58,8 @@ small o = leb (o .i) 5 && (leb (o .j) 5 && leb (o .k) 5)
 
 is-small : (o : CoordIJK) → T (small o) → Upto 5 o
 is-small o t =
-    let r = right (leb (o .i) 5) _ t in
-    record { i-upto = leb→le _ _ (left (leb (o .i) 5) _ t); j-upto = leb→le _ _ (left (leb (o .j) 5) _ r); k-upto = leb→le _ _ (right (leb (o .j) 5) _ r) }
+    let r = and-r (leb (o .i) 5) _ t in
+    record { i-upto = leb→le _ _ (and-l (leb (o .i) 5) _ t); j-upto = leb→le _ _ (and-l (leb (o .j) 5) _ r); k-upto = leb→le _ _ (and-r (leb (o .j) 5) _ r) }
 
 pub offset-small : (odd : Bool) (v : ℕ) → v < 6 → Upto 5 (offsetOf odd v)
 offset-small true v h = is-small _ (at (λ (k : ℕ). small (offsetOf true k)) 6 tt v h)

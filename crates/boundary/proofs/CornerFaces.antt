@@ -9,6 +9,7 @@ use borrow.Author.Tests.{ltb-false}
 use Rattle.reply.specs.declared.Refusal.the-variants.{OutOfFace}
 use Rattle.reply.specs.declared.Verdict.the-variants.{Fine}
 use Rattle.reply.specs.Replies.{when, first}
+use Rattle.reply.specs.Order.{Each}
 use Rattle.reply.proofs.Entries.{passed}
 use Rattle.level.specs.Levels.{raisedOf, limitOf}
 use Rattle.coordijk.specs.Coordinates.{sumOf}
@@ -30,11 +31,6 @@ use Rattle.boundary.proofs.Landing.{vertex-low, corner-okay, land-reach
 use Rattle.boundary.proofs.Smallest.{both-fine}
 use Rattle.boundary.proofs.Verdicts.{first-append, ranged}
 use Rattle.boundary.proofs.CrossingRefusals.{Fair, point-there, either, TwelveOrThirteen, fair}
-
--- P holds of each point
-abbrev pub Each : (BoundaryPoint → Type 0) → List BoundaryPoint → Type 0
-Each P [] = Unit {0}
-Each P (p ∷ ps) = P p × Each P ps
 
 each-append : (P : BoundaryPoint → Type 0) (xs ys : List BoundaryPoint) → Each P xs → Each P ys → Each P (xs ++ ys)
 each-append P [] ys f g = g

@@ -7,17 +7,15 @@ use lib.Dec.{T}
 use lib.Ieee.{binary64, fits}
 use Rattle.reply.specs.Replies.{Reply}
 use Rattle.reply.proofs.Numbers.{same-verdict}
+use Rattle.reply.proofs.Entries.{values}
 use Rattle.coordijk.specs.declared.CoordIJK.{CoordIJK}
 use Rattle.coordijk.proofs.Unique.{same-coord}
-use Rattle.vec2d.proofs.Unique.{same-bits}
+use Rattle.double.proofs.Sign.{same-bits}
 use Rattle.boundary.specs.declared.Corners.{Corners}
 use Rattle.boundary.specs.declared.BoundaryPoint.{BoundaryPoint}
 use Rattle.boundary.specs.declared.Boundary.{Boundary}
 use Rattle.boundary.specs.Corners.{coordsValues, saidCorners}
 use Rattle.boundary.specs.Boundaries.{pointsValues, saidBoundary}
-
-values : {a b : Reply} → a ≡ b → a .values ≡ b .values
-values e = ap (λ (x : Reply). x .values) e
 
 same-coords : (xs ys : List CoordIJK) → coordsValues xs ≡ coordsValues ys → xs ≡ ys
 same-coords [] [] e = refl

@@ -94,7 +94,7 @@ fn range_verdict(centre: CoordIJK, bad_range: bool) -> Verdict
 fn cell_verdict(centre: Place, level: CellLevel, bad_range: bool) -> Verdict
     ensures { λ r. ⌜ r ≡ cellVerdict centre (level .0) «bad_range» ⌝ }
 {
-    if 19 < centre.face {
+    if Place::LAST_FACE < centre.face {
         return Verdict::Refused(Refusal::BadFace);
     }
     let verdict = level.verdict();
@@ -213,11 +213,8 @@ impl Cell {
         ensures { λ r. ⌜ r ≡ cornerOf (self .odd) (coordOf (self .centre)) v ⌝ }
     {
         let o = self.offset(v);
-        CoordIJK::new(
-            self.centre.i + o.i,
-            self.centre.j + o.j,
-            self.centre.k + o.k,
-        ).reduce()
+        let c = self.centre;
+        CoordIJK::new(c.i + o.i, c.j + o.j, c.k + o.k).reduce()
     }
 
     fn corners(self) -> [CoordIJK; 6]
@@ -631,8 +628,8 @@ impl Shape {
         requires { ⌜ Solid self × (length ≤ self .sides) × (self .sides ≡ 6) ⌝ }
         ensures { λ r. ⌜ r ≡ withinOf self length ⌝ }
     {
-        let c = self.cell.centre;
-        let sum = c.i as u64 + c.j as u64 + c.k as u64;
+        let centre = self.cell.centre;
+        let sum = centre.sum();
         let limit = 3 * self.cell.m as u64;
         if limit < sum {
             return Boundary::refused(Refusal::OutOfFace);
@@ -648,9 +645,8 @@ impl Shape {
         requires { ⌜ Solid self × (length ≤ self .sides) × (self .sides ≡ 5) ⌝ }
         ensures { λ r. ⌜ r ≡ withinOf self length ⌝ }
     {
-        let c = self.cell.centre;
-        let sum = c.i as u64 + c.j as u64 + c.k as u64;
-        if 3 * (self.cell.m as u64) < sum {
+        let centre = self.cell.centre;
+        if 3 * (self.cell.m as u64) < centre.sum() {
             return Boundary::refused(Refusal::OutOfFace);
         }
         self.pentagon_walk(turns_for(5, length))

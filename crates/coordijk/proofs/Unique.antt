@@ -3,8 +3,7 @@ use mathlib.Core.Path.{_≡_, sym, ap, _∙_}
 use Rattle.reply.specs.declared.Refusal.{Refusal}
 use Rattle.reply.specs.declared.Verdict.{Verdict}
 use Rattle.reply.specs.declared.Verdict.the-variants.{Fine}
-use Rattle.reply.specs.Replies.{Reply}
-use Rattle.reply.proofs.Entries.{answer-or-refusal, same-refusal, answered, refused}
+use Rattle.reply.proofs.Entries.{values, answer-or-refusal, same-refusal, answered, refused}
 use Rattle.coordijk.specs.declared.CoordIJK.{CoordIJK}
 use Rattle.coordijk.specs.declared.GridMap.{GridMap}
 use Rattle.coordijk.specs.declared.Mapped.{Mapped}
@@ -16,7 +15,7 @@ pub same-coord : (c d : CoordIJK) → c .i ≡ d .i → c .j ≡ d .j → c .k �
 same-coord c d p q r = λ n. coord (p n) (q n) (r n)
 
 pub one-mapped : (a b : Mapped) → saidMapped a ≡ saidMapped b → a ≡ b
-one-mapped (Done c) (Done d) e = let v = ap (λ (x : Reply). x .values) e in ap Done (same-coord c d (cc) (cc) (cc))
+one-mapped (Done c) (Done d) e = let v = values e in ap Done (same-coord c d (cc) (cc) (cc))
 one-mapped (Done c) (Refused r) e = answer-or-refusal 3 _ r e
 one-mapped (Refused r) (Done c) e = answer-or-refusal 3 _ r (sym e)
 one-mapped (Refused r) (Refused s) e = ap Refused (same-refusal 3 r s e)

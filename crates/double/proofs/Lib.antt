@@ -4,6 +4,7 @@ pub mod Sign
 pub mod Sizes
 pub mod Nonnegative
 pub mod Tests
+pub mod Over
 pub mod Squares
 pub mod Left
 pub mod Whole

@@ -1,4 +1,4 @@
--- |x| is x's bit pattern without its highest bit, and x is finite where it lies between the infinities. Assumes nothing.
+-- A double is told by its bits: |x| is x's bit pattern without its highest bit, and x is finite where it lies between the infinities. Assumes nothing.
 use mathlib.Core.Path.{_≡_, refl, sym, ap, _∙_, subst}
 use mathlib.Core.Bool.{Bool, true, false, not, _&&_, true≢false}
 use Prim.Native.Nat.{ℕ, zero, suc, _+_, _*_, _%_, _^_, _<_}
@@ -9,6 +9,10 @@ use lib.Dec.{T}
 use lib.Ieee.{Float, nan, inf, fin, binary64, fits, isNan, nanBits, toBits, ofBits, lt, ne}
 use lib.Ieee.Bits.{ofBits-toBits, toBits-lt, nanBits-is}
 use Rattle.double.specs.Double.{sizeOf, finite}
+
+-- Two values of the format with the same 64 bits are one.
+pub same-bits : (x y : Float) → T (fits binary64 x) → T (fits binary64 y) → toBits binary64 x ≡ toBits binary64 y → x ≡ y
+same-bits x y f g e = sym (ofBits-toBits binary64 x f) ∙ (ap (ofBits binary64) e ∙ ofBits-toBits binary64 y g)
 
 pub no-nan : (x : Float) → ne x x ≡ false → T (not (isNan x))
 unfolding ne isNan

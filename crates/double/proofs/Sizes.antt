@@ -36,6 +36,11 @@ pub round-size : (s : Bool) (a c : ℕ) → sizeOf (round binary64 s a c) ≡ ro
 round-size s a c = ap sizeOf (round-is binary64 s a c) ∙ units-size s _ _ ∙ sym (round-is binary64 false a c)
 
 -- What is known of a size is known of the number, and the other way round.
+pub size-finite : (x : Float) → finite x ≡ true → finite (sizeOf x) ≡ true
+size-finite nan f = f
+size-finite (inf s) f = f
+size-finite (fin s m e) f = f
+
 pub of-size : (n : ℕ) (x : Float) → Under n (sizeOf x) → Under n x
 of-size n nan p = p
 of-size n (inf s) p = absurd (false≢true (p .number))

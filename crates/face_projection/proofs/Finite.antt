@@ -3,7 +3,7 @@
 use mathlib.Core.Path.{_≡_, refl}
 use mathlib.Core.Bool.{Bool, true, false, _&&_, _||_, false≢true}
 use mathlib.Core.List.{List}
-use Prim.Native.Nat.{ℕ, _+_, _-_, _*_, _/_, _%_, _^_, _≤_, _<_}
+use Prim.Native.Nat.{ℕ, _-_, _*_, _/_, _%_, _^_, _≤_, _<_}
 use native.Mathlib.Nat.{le-trans, le-of-lt}
 use native.Mathlib.Omega.{arith}
 use borrow.Author.Tests.{le-ltb, ne-eqb}
@@ -15,6 +15,7 @@ use Rattle.level.proofs.Computed.{at}
 use Rattle.double.specs.Double.{finite, sizeOf, limit, twoAndHalf, sin60}
 use Rattle.double.specs.Sizes.{Under}
 use Rattle.double.proofs.Sizes.{under-le, whole-under, mul-under}
+use Rattle.double.proofs.Over.{exact-20}
 use Rattle.double.proofs.Tests.{not-below-half}
 use Rattle.vec2d.specs.declared.Vec2d.{Vec2d}
 use Rattle.vec2d.specs.Points.{isPoint}
@@ -27,7 +28,7 @@ use Rattle.vec3d.specs.Sizes.{AxesUnder}
 use Rattle.vec3d.proofs.Sizes.{unit-under, face-under, dot-under}
 use Rattle.face_projection.specs.declared.FaceProjection.{FaceProjection}
 use Rattle.face_projection.specs.Projection.{behind, projectionOf, sevenTo, evenLevel, oddLevel, atLevel, pointOf}
-use Rattle.face_projection.proofs.Units.{Within, within-le, within-under, exact-20, scaled-within, add-within, sub-within, halves-within}
+use Rattle.face_projection.proofs.Units.{Within, within-le, within-under, scaled-within, add-within, sub-within, halves-within}
 use Rattle.face_projection.proofs.Reach.{dot-reach}
 
 -- both parts of a point are at most n in size

@@ -1,88 +1,28 @@
 -- How far a unit vector reaches: the sizes of its three parts sum to at most 1816190 units of 2^-20, a little more than the square root of 3.
 -- Assumes nothing.
 use mathlib.Core.Path.{_≡_, refl, sym, ap, _∙_}
-use mathlib.Core.Bool.{Bool, true, false, not, _&&_, true≢false, false≢true}
-use Prim.Native.Nat.{ℕ, _+_, _*_, _/_, _^_, _≤_, _<_, zero-le}
-use native.Mathlib.Nat.{le-trans, le-of-eq, le-of-lt, mul-comm, mul-assoc, mul-le-mul, mul-le-mul-left, mul-le-mul-right, mul-mul-mul-comm, mul-right-comm, mul-pos, add-mul, zero-mul, div-mul-le-self, lt-div-mul-add, le-of-mul-le-mul-right, lt-irrefl}
+use mathlib.Core.Bool.{true, false, not}
+use Prim.Native.Nat.{ℕ, _+_, _*_, _/_, _^_, _≤_}
+use native.Mathlib.Nat.{le-refl, le-trans, le-of-eq, le-of-lt, mul-le-mul, mul-le-mul-right, mul-right-comm, add-mul, div-mul-le-self, lt-div-mul-add, le-of-mul-le-mul-right, lt-irrefl}
 use native.Mathlib.Decide.{decLe}
 use native.Mathlib.Omega.{arith}
-use lib.Dec.{T, lit<, lit≤}
-use lib.Ieee.{Float, nan, inf, fin, binary64, ofBits, up, down, unlike, round, sum, add, mul, le}
+use lib.Dec.{T, lit<}
+use lib.Ieee.{Float, nan, inf, fin, binary64, ofBits, up, down, mul, le}
 use lib.Ieee.Fits.{down-pos}
-use lib.Ieee.Exact.{HasValue}
-use lib.Ieee.Order.{round-mono}
-use lib.Ieee.Positive.{num, den, den-pos, through}
-use Rattle.double.specs.Double.{finite, sizeOf, mulAdd, sphereLow, sphereHigh}
+use lib.Ieee.Positive.{num, den, den-pos}
+use borrow.Author.Tests.{not-false}
+use Rattle.reply.proofs.Entries.{both}
+use Rattle.double.specs.Double.{finite, mulAdd, sphereLow, sphereHigh}
 use Rattle.double.specs.Sizes.{Under}
-use Rattle.double.proofs.Sizes.{round-size, le-of-test}
+use Rattle.double.proofs.Sizes.{le-of-test}
+use Rattle.double.proofs.Over.{exact-20, exact-40, Over, add-over, square-over}
 use Rattle.double.proofs.Tests.{holds}
 use Rattle.coordijk.proofs.Distance.{outweigh}
 use Rattle.vec3d.specs.declared.Vec3d.{Vec3d}
 use Rattle.vec3d.specs.Vectors.{dotOf, badNumber, offSphere}
-use Rattle.vec3d.proofs.Sizes.{Finite, numbers, upper, unit-under}
+use Rattle.vec3d.proofs.Sizes.{Finite, numbers, unit-under}
 use Rattle.vec3d.specs.Sizes.{PartsUnder}
-use Rattle.face_projection.proofs.Units.{Exact, exact-20, exact-40, Within, within-le, mul-within, add-within}
-
--- at least k / L and not negative, an infinity included
-abbrev Over : ℕ → ℕ → Float → Type 0
-Over L k nan = ⊥
-Over L k (inf true) = ⊥
-Over L k (inf false) = Unit
-Over L k (fin true m e) = ⊥
-Over L k (fin false m e) = k * down e ≤ m * up e * L
-
-over : (L k : ℕ) (x y : Float) → sizeOf x ≡ x → HasValue y false k L → T (le y x) → Over L k x
-unfolding le
-over L k x nan p v t = absurd v
-over L k x (inf s) p v t = absurd v
-over L k x (fin true n d) p v t = absurd (true≢false (v .0))
-over L k nan (fin false n d) p v t = t
-over L k (inf true) (fin false n d) p v t = t
-over L k (inf false) (fin false n d) p v t = tt
-over L k (fin true m e) (fin false n d) p v t = absurd (false≢true (cc))
-over L k (fin false m e) (fin false n d) p v t =
-    through k (n * up d) (m * up e) L (down d) (down e) (down-pos d) (le-of-eq (sym (v .1))) (le-of-test (n * up d * down e) (m * up e * down d) true t)
-
-module _ (L : ℕ) (some : 0 < L) (exact : Exact L) where
-  round-over : (a c k : ℕ) → 0 < c → k < 2 ^ 53 → k * c ≤ a * L → Over L k (round binary64 false a c)
-  round-over a c k C K h =
-      over L k (round binary64 false a c) (round binary64 false k L) (round-size false a c) (exact k K) (round-mono binary64 k L a c some C h)
-
-  add-over : (a b : ℕ) (x y : Float) → Over L a x → Over L b y → a + b < 2 ^ 53 → Over L (a + b) (add binary64 x y)
-  unfolding add sum
-  add-over a b nan y p q h = absurd p
-  add-over a b (inf true) y p q h = absurd p
-  add-over a b (inf false) nan p q h = absurd q
-  add-over a b (inf false) (inf true) p q h = absurd q
-  add-over a b (inf false) (inf false) p q h = tt
-  add-over a b (inf false) (fin true n d) p q h = absurd q
-  add-over a b (inf false) (fin false n d) p q h = tt
-  add-over a b (fin true m e) y p q h = absurd p
-  add-over a b (fin false m e) nan p q h = absurd q
-  add-over a b (fin false m e) (inf true) p q h = absurd q
-  add-over a b (fin false m e) (inf false) p q h = tt
-  add-over a b (fin false m e) (fin true n d) p q h = absurd q
-  add-over a b (fin false m e) (fin false n d) p q h =
-      let c = down e * down d in
-      let l : a * c ≤ m * up e * down d * L = le-trans (le-of-eq (sym (mul-assoc a (down e) (down d)))) (le-trans (mul-le-mul-right (down d) p) (le-of-eq (mul-right-comm (m * up e) L (down d)))) in
-      let r : b * c ≤ n * up d * down e * L = le-trans (le-of-eq (ap (λ (z : ℕ). b * z) (mul-comm (down e) (down d)) ∙ sym (mul-assoc b (down d) (down e)))) (le-trans (mul-le-mul-right (down e) q) (le-of-eq (mul-right-comm (n * up d) L (down e)))) in
-      round-over (m * up e * down d + n * up d * down e) c (a + b) (mul-pos (down-pos e) (down-pos d)) h (rw (add-mul a b c, add-mul (m * up e * down d) (n * up d * down e) L) (omega arith))
-
-  -- the square of a number that is at least k of the units whose square is 1 / L
-  square-over : (M k : ℕ) (x : Float) → M * M ≡ L → finite x ≡ true → k * den x ≤ num x * M → k * k < 2 ^ 53 → Over L (k * k) (mul binary64 x x)
-  unfolding mul
-  square-over M k nan w t l h = absurd (false≢true t)
-  square-over M k (inf s) w t l h = absurd (false≢true t)
-  square-over M k (fin s m e) w t l h =
-      sign s
-      (round-over (m * up e * (m * up e)) (down e * down e) (k * k) (mul-pos (down-pos e) (down-pos e)) h
-      (le-trans (le-of-eq (sym (mul-mul-mul-comm k (down e) k (down e))))
-      (le-trans (mul-le-mul l l) (le-of-eq (mul-mul-mul-comm (m * up e) M (m * up e) M ∙ ap (λ (z : ℕ). m * up e * (m * up e) * z) w)))))
-    where
-      sign : (s : Bool) → Over L (k * k) (round binary64 false (m * up e * (m * up e)) (down e * down e))
-          → Over L (k * k) (round binary64 (unlike s s) (m * up e * (m * up e)) (down e * down e))
-      sign true p = p
-      sign false p = p
+use Rattle.face_projection.proofs.Units.{Within, within-le, mul-within, add-within}
 
 -- what is at most 1 + 2^-40 is at most 2^40 + 1 units of 2^-40
 at-most : (k : ℕ) (x : Float) → Over (2 ^ 40) k x → T (le x sphereHigh) → k ≤ 2 ^ 40 + 1
@@ -156,9 +96,9 @@ module _ (v : Vec3d) (good : badNumber v ≡ false) (on : offSphere v ≡ false)
       let sb = square-small b (units-low (v .y) (l .y)) in
       let sc = square-small c (units-low (v .z) (l .z)) in
       at-most (a * a + (b * b + c * c)) (dotOf v v)
-      (add-over (2 ^ 40) (lit< tt) exact-40 (a * a) (b * b + c * c) _ _ (square-of (v .x) (f .x) (l .x))
-      (add-over (2 ^ 40) (lit< tt) exact-40 (b * b) (c * c) _ _ (square-of (v .y) (f .y) (l .y)) (square-of (v .z) (f .z) (l .z)) (omega arith)) (omega arith))
-      (holds (upper (le sphereLow (dotOf v v)) (le (dotOf v v) sphereHigh) on))
+      (add-over (2 ^ 40) (lit< tt) exact-40 (a * a) (b * b + c * c) _ _ _ (square-of (v .x) (f .x) (l .x))
+      (add-over (2 ^ 40) (lit< tt) exact-40 (b * b) (c * c) _ _ _ (square-of (v .y) (f .y) (l .y)) (square-of (v .z) (f .z) (l .z)) (le-refl _) (omega arith)) (le-refl _) (omega arith))
+      (holds (both (le sphereLow (dotOf v v)) (le (dotOf v v) sphereHigh) (not-false _ on) .1))
 
   -- A unit vector's dot product with a vector whose parts are at most 3 is at most 5448570 units: about 5.196, three times the square root of 3.
   pub dot-reach : (u : Vec3d) → PartsUnder 3 u → Within (2 ^ 20) 5448570 (dotOf v u)

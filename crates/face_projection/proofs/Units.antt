@@ -1,38 +1,24 @@
 -- Sizes in units of 1 / L, where a double can be any number of units below 2^53: a finer calculus than that of whole numbers. Assumes nothing.
 use mathlib.Core.Path.{_≡_, refl, sym, ap, _∙_}
-use mathlib.Core.Bool.{Bool, true, false, cond, Bool·beq, _&&_, _||_, true≢false, false≢true}
+use mathlib.Core.Bool.{Bool, true, false, cond, Bool·beq, _&&_, true≢false, false≢true}
 use Prim.Native.Nat.{ℕ, zero, suc, _+_, _-_, _*_, _^_, _≤_, _<_}
-use native.Mathlib.Nat.{le-trans, le-of-eq, lt-trans, lt-irrefl, mul-comm, mul-assoc, mul-right-comm, mul-le-mul, mul-le-mul-left, mul-le-mul-right, mul-mul-mul-comm, mul-pos, add-mul, zero-lt-suc, le-of-mul-le-mul-right}
+use native.Mathlib.Nat.{le-trans, le-of-eq, lt-irrefl, mul-comm, mul-assoc, mul-right-comm, mul-le-mul, mul-le-mul-left, mul-le-mul-right, mul-mul-mul-comm, mul-pos, add-mul, zero-lt-suc, le-of-mul-le-mul-right}
 use native.Mathlib.Omega.{arith}
-use lib.Dec.{T, ltb, lit<, eqb·suc-zero}
-use lib.Pow.{pow-pos, pow-lt, shl-lt}
+use lib.Dec.{T, ltb, eqb·suc-zero}
 use lib.Ieee.{Float, nan, inf, fin, binary64, up, down, unlike, round, sum, add, sub, neg, mul, div, le}
 use lib.Ieee.Fits.{down-pos, up-pos}
-use lib.Ieee.Exact.{HasValue, round-exact}
+use lib.Ieee.Exact.{HasValue}
 use lib.Ieee.Order.{round-mono}
 use lib.Ieee.Positive.{num, den, through}
-use Rattle.double.specs.Double.{finite, sizeOf, mulAdd}
+use Rattle.double.specs.Double.{finite, sizeOf}
 use Rattle.double.specs.Sizes.{Under}
 use Rattle.double.proofs.Sizes.{round-size, le-of-test}
+use Rattle.double.proofs.Over.{Exact}
 
 -- x is finite and at most n / L in size
 pub record Within (L n : ℕ) (x : Float) : Type 0 where
   pub number : finite x ≡ true
   pub size : num x * L ≤ n * den x
-
--- each number of units below 2^53 is a double
-abbrev pub Exact : ℕ → Type 0
-Exact L = (n : ℕ) → n < 2 ^ 53 → HasValue (round binary64 false n L) false n L
-
-exact-with : (t j : ℕ) → 2 ^ j * 2 ^ t ≡ 2 ^ 1074 → 53 + j < 2098 → Exact (2 ^ t)
-exact-with t j e r n h =
-    round-exact binary64 false n (2 ^ t) n j (pow-pos t) h (lt-trans (shl-lt 53 j h) (pow-lt r)) (ap (λ (z : ℕ). n * z) (sym e) ∙ sym (mul-assoc n (2 ^ j) (2 ^ t)))
-
-pub exact-20 : Exact (2 ^ 20)
-exact-20 = exact-with 20 1054 refl (lit< tt)
-
-pub exact-40 : Exact (2 ^ 40)
-exact-40 = exact-with 40 1034 refl (lit< tt)
 
 -- whole numbers and units
 pub within-under : (L n : ℕ) (x : Float) → 0 < L → Within L (n * L) x → Under n x

@@ -5,6 +5,7 @@ ghost use Prim.Native.Nat.{_/_, _≤_};
 ghost use Rattle.reply.specs.Replies.{first};
 ghost use Rattle.vec2d.specs.Points.{saidPointed};
 ghost use Rattle.face_projection.specs.Projection.{sevenTo, projectionOf, atLevel, projectedOf, beforeReasons, planeReply};
+use faceijk::Place;
 use level::CellLevel;
 use reply::Refusal;
 use reply::Verdict;
@@ -18,6 +19,9 @@ pub struct FaceProjection {
     pub x0: f64,
     pub y0: f64,
 }
+
+// A vector is behind a face where its dot product with the centre is below this.
+const BEHIND: f64 = 0.5;
 
 // 7^(level/2) for the cell levels 0, 2, .., 14.
 const POWERS: [f64; 8] = [1.0, 7.0, 49.0, 343.0, 2401.0, 16807.0, 117649.0, 823543.0];
@@ -50,15 +54,11 @@ impl FaceProjection {
     {
         let scale = power(level);
         if level % 2 == 0 {
-            return Vec2d {
-                x: self.x0 * scale,
-                y: self.y0 * scale,
-            };
+            return Vec2d::new(self.x0 * scale, self.y0 * scale);
         }
-        Vec2d {
-            x: scale * (2.5 * self.x0 + Vec2d::SIN60 * self.y0),
-            y: scale * (2.5 * self.y0 - Vec2d::SIN60 * self.x0),
-        }
+        let x = 2.5 * self.x0 + Vec2d::SIN60 * self.y0;
+        let y = 2.5 * self.y0 - Vec2d::SIN60 * self.x0;
+        Vec2d::new(scale * x, scale * y)
     }
 }
 
@@ -68,7 +68,7 @@ pub fn project(axes: FaceAxes, level: u32, p: Vec3d) -> Pointed
     ensures { λ r. ⌜ r ≡ projectedOf axes level p ⌝ }
 {
     let centre = axes.centre;
-    if p.dot(centre) < 0.5 {
+    if p.dot(centre) < BEHIND {
         return Pointed::Refused(Refusal::Behind);
     }
     Pointed::Done(FaceProjection::new(axes, p).at_level(level))
@@ -81,7 +81,7 @@ fn verdict_before(frame: &[f64], face: u32, level: CellLevel) -> Verdict
     if vec3d::bad_frame(frame) {
         return Verdict::Refused(Refusal::BadFrame);
     }
-    if 19 < face {
+    if Place::LAST_FACE < face {
         return Verdict::Refused(Refusal::BadFace);
     }
     level.verdict()

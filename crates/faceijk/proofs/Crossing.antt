@@ -1,14 +1,13 @@
 -- The cases of a crossing. Assumes nothing.
 use mathlib.Core.Path.{_≡_, refl, sym, ap, _∙_}
-use mathlib.Core.Bool.{Bool, true, false, true≢false, _&&_}
-use Prim.Native.Nat.{ℕ, _≤_, _<_}
+use mathlib.Core.Bool.{Bool, true, false, _&&_}
+use Prim.Native.Nat.{_≤_, _<_}
 use native.Mathlib.Omega.{arith}
-use lib.Dec.{eqb}
 use borrow.Author.Tests.{lt-ltb, le-ltb, ne-eqb, eqb-true}
 use Rattle.reply.specs.Choice.{pick}
+use Rattle.reply.proofs.Entries.{both}
 use Rattle.level.specs.declared.Grid.{Grid}
 use Rattle.faceijk.specs.declared.Place.{Place}
-use Rattle.faceijk.specs.declared.Landed.{Landed}
 use Rattle.faceijk.specs.declared.Overage.the-variants.{None, FaceEdge, NewFace}
 use Rattle.faceijk.specs.Places.{sumAt}
 use Rattle.faceijk.specs.Crossing.{onEdge, stepOut, landed, arrived, crossingOf}
@@ -29,10 +28,6 @@ module _ (turn : Bool) (g : Grid) (p : Place) where
       (ap (λ (x : Bool). landed q (pick x FaceEdge NewFace)) v ∙ ap (arrived g) w)
 
 -- beyond the limit a place is not on the edge
-edge-is : (s b : Bool) → (s && b) ≡ true → b ≡ true
-edge-is true b e = e
-edge-is false b e = absurd (true≢false (sym e))
-
 off : (s b : Bool) → b ≡ false → (s && b) ≡ false
 off true b e = e
 off false b e = refl
@@ -41,7 +36,7 @@ pub off-edge : (g : Grid) (p : Place) → g .limit < sumAt p → onEdge g p ≡ 
 off-edge g p h = off (g .substrate) _ (ne-eqb (sumAt p) (g .limit) (λ e. omega arith))
 
 pub edge-sum : (g : Grid) (p : Place) → onEdge g p ≡ true → sumAt p ≡ g .limit
-edge-sum g p e = eqb-true (sumAt p) (g .limit) (edge-is (g .substrate) _ e)
+edge-sum g p e = eqb-true (sumAt p) (g .limit) (both (g .substrate) _ e .1)
 
 -- a crossing made because s exceeds m lands where its step leads
 pub crossed-beyond : (g : Grid) (p : Place) (turn : Bool) → g .limit < sumAt p → crossingOf turn g p ≡ arrived g (stepOut turn g p)

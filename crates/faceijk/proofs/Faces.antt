@@ -5,9 +5,11 @@ use Prim.Native.Nat.{ℕ, zero, suc, _-_, _≤_, _<_}
 use native.Mathlib.Nat.{not-suc-le-zero}
 use native.Mathlib.Omega.{arith}
 use lib.Dec.{T, eqb, ltb, eqb→eq, ltb→lt}
+use lib.Ieee.Bits.{is-false}
+use lib.Ieee.Fits.{and-l, and-r}
 use borrow.Author.Tests.{ltb-true}
 use Rattle.reply.specs.Choice.{pick}
-use Rattle.level.proofs.Computed.{left, right, all, at}
+use Rattle.level.proofs.Computed.{all, at}
 use Rattle.faceijk.specs.Faces.{faceOver, dirTo}
 use Rattle.faceijk.specs.Steps.{polar}
 
@@ -30,10 +32,6 @@ abbrev mate : ℕ → ℕ → ℕ → ℕ → Bool
 mate f e g b =
     ltb g 20 && (eqb (faceOver g b) f && (eqb (dirTo g f) b && (not (eqb g f) && same (pick (eqb e 3) (polar f) (polar g)) (polar f))))
 
-is-false : (b : Bool) → T (not b) → b ≡ false
-is-false true t = absurd t
-is-false false t = refl
-
 is-same : (a b : Bool) → T (same a b) → a ≡ b
 is-same true true t = refl
 is-same true false t = absurd t
@@ -42,15 +40,15 @@ is-same false false t = refl
 
 mated : (f e g b : ℕ) → T (mate f e g b) → Mate f e g b
 mated f e g b t =
-    let r = right (ltb g 20) _ t in
-    let s = right (eqb (faceOver g b) f) _ r in
-    let v = right (eqb (dirTo g f) b) _ s in
+    let r = and-r (ltb g 20) _ t in
+    let s = and-r (eqb (faceOver g b) f) _ r in
+    let v = and-r (eqb (dirTo g f) b) _ s in
     record {
-      over = ltb→lt _ _ (left (ltb g 20) _ t);
-      here = eqb→eq _ _ (left (eqb (faceOver g b) f) _ r);
-      back = eqb→eq _ _ (left (eqb (dirTo g f) b) _ s);
-      other = is-false (eqb g f) (left (not (eqb g f)) _ v);
-      row = is-same _ _ (right (not (eqb g f)) _ v);
+      over = ltb→lt _ _ (and-l (ltb g 20) _ t);
+      here = eqb→eq _ _ (and-l (eqb (faceOver g b) f) _ r);
+      back = eqb→eq _ _ (and-l (eqb (dirTo g f) b) _ s);
+      other = is-false (eqb g f) (and-l (not (eqb g f)) _ v);
+      row = is-same _ _ (and-r (not (eqb g f)) _ v);
     }
 
 -- the test at all twenty faces, for one edge

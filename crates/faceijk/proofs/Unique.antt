@@ -7,7 +7,7 @@ use native.Mathlib.Omega.{arith}
 use Rattle.reply.specs.declared.Verdict.the-variants.{Fine}
 use Rattle.reply.specs.Replies.{Reply, answer}
 use Rattle.reply.specs.Order.{Smallest}
-use Rattle.reply.proofs.Entries.{answer-or-refusal, same-refusal, answered}
+use Rattle.reply.proofs.Entries.{values, answer-or-refusal, same-refusal, answered}
 use Rattle.reply.proofs.Smallest.{smallest}
 use Rattle.level.specs.Levels.{unitOf, gridOf}
 use Rattle.faceijk.specs.declared.Place.{Place}
@@ -27,9 +27,6 @@ use Rattle.faceijk.specs.Faces.{directionNumber}
 use Rattle.faceijk.specs.Steps.{stepOf}
 use Rattle.faceijk.specs.Crossing.{crossingOf, settleFrom}
 use Rattle.faceijk.specs.Entries.{badEdge, overageNumber, landedValues, restedValues, saidMoved, stepReply, saidCrossed, crossReply, saidSettled, settleReply, saidDirected, saidSame, sameReasons, sameVerdict}
-
-values : {a b : Reply} → a ≡ b → a .values ≡ b .values
-values e = ap (λ (x : Reply). x .values) e
 
 place-from : {p q : Place} → p .face ≡ q .face → p .i ≡ q .i → p .j ≡ q .j → p .k ≡ q .k → p ≡ q
 place-from f i j k = λ n. record { face = f n; i = i n; j = j n; k = k n }

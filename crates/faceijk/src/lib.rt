@@ -88,12 +88,7 @@ pub enum OnGrid {
 fn placed(face: u32, c: CoordIJK) -> Place
     ensures { λ r. ⌜ r ≡ place face c ⌝ }
 {
-    Place {
-        face,
-        i: c.i,
-        j: c.j,
-        k: c.k,
-    }
+    Place::new(face, c.i, c.j, c.k)
 }
 
 fn landing(place: Place, overage: Overage) -> Landed
@@ -193,10 +188,7 @@ pub fn back_edge(face: u32, edge: u32) -> u32
 pub fn face_direction(from: u32, to: u32) -> Directed
     ensures { λ r. ⌜ saidDirected r ≡ directionReply from to ⌝ }
 {
-    if 19 < from {
-        return Directed::Refused(Refusal::BadFace);
-    }
-    if 19 < to {
+    if (Place::LAST_FACE < from) | (Place::LAST_FACE < to) {
         return Directed::Refused(Refusal::BadFace);
     }
     Directed::Done(direction_to(from, to))
@@ -231,6 +223,8 @@ impl Direction {
 }
 
 impl Place {
+    pub const LAST_FACE: u32 = 19;
+
     pub fn new(face: u32, i: u32, j: u32, k: u32) -> Place
         ensures { λ r. ⌜ r ≡ record { face = face; i = i; j = j; k = k } ⌝ }
     {
@@ -254,7 +248,7 @@ impl Place {
     pub fn verdict(self) -> Verdict
         ensures { λ r. ⌜ verdictNumber r ≡ verdictNumber (placeVerdict self) ⌝ }
     {
-        if 19 < self.face {
+        if Place::LAST_FACE < self.face {
             return Verdict::Refused(Refusal::BadFace);
         }
         self.coord().verdict()
@@ -278,7 +272,7 @@ impl Place {
     fn on_grid(self, level: GridLevel, substrate: bool, bad_edge: bool) -> OnGrid
         ensures { λ r. ⌜ r ≡ onGridOf (overEdgeVerdict self (level .0) «bad_edge») (gridOf (level .0) substrate) ⌝ }
     {
-        if 19 < self.face {
+        if Place::LAST_FACE < self.face {
             return OnGrid::Refused(Refusal::BadFace);
         }
         let gridded = level.grid(substrate);
@@ -292,7 +286,7 @@ impl Place {
     pub fn turn(self, clockwise: bool) -> Moved
         ensures { λ r. ⌜ saidMoved r ≡ turnReply self clockwise ⌝ }
     {
-        if 19 < self.face {
+        if Place::LAST_FACE < self.face {
             return Moved::Refused(Refusal::BadFace);
         }
         let mapped = self.coord().map(turn_map(clockwise));
@@ -338,7 +332,8 @@ impl Place {
         }
     }
 
-    fn sum(self) -> u64
+    // s of the paper, which crossing compares with the limit.
+    pub fn sum(self) -> u64
         ensures { λ r. ⌜ r ≡ sumAt self ⌝ }
     {
         self.i as u64 + self.j as u64 + self.k as u64
@@ -459,7 +454,7 @@ impl Place {
     fn verdict_with(self, other: Place) -> Verdict
         ensures { λ r. ⌜ r ≡ sameVerdict self other ⌝ }
     {
-        if (19 < self.face) | (19 < other.face) {
+        if (Place::LAST_FACE < self.face) | (Place::LAST_FACE < other.face) {
             return Verdict::Refused(Refusal::BadFace);
         }
         let here = self.coord().verdict();

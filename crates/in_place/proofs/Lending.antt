@@ -6,8 +6,8 @@ use Prim.Native.Nat.{ℕ}
 use Rattle.reply.specs.declared.Refusal.{Refusal}
 use Rattle.reply.specs.declared.Verdict.{Verdict}
 use Rattle.reply.specs.declared.Verdict.the-variants.{Refused}
-use Rattle.reply.specs.Replies.{Reply, answer, refusal}
-use Rattle.reply.proofs.Entries.{answers, refuses, refused, answer-or-refusal, same-refusal}
+use Rattle.reply.specs.Replies.{answer, refusal}
+use Rattle.reply.proofs.Entries.{values, answers, refuses, refused, answer-or-refusal, same-refusal}
 use Rattle.faceijk.specs.declared.Place.{Place}
 use Rattle.faceijk.specs.declared.Rested.{Rested}
 use Rattle.faceijk.specs.declared.Settled.{Settled}
@@ -37,7 +37,7 @@ module _ (p : Place) (l : ℕ) (substrate : Bool) where
 
 -- two outcomes that meet one promise coincide
 pub one-stepped : (a b : Stepped) → saidStepped a ≡ saidStepped b → a ≡ b
-one-stepped (Stepped.Done m) (Stepped.Done n) e = let v = ap (λ (x : Reply). x .values) e in ap Stepped.Done (cc)
+one-stepped (Stepped.Done m) (Stepped.Done n) e = let v = values e in ap Stepped.Done (cc)
 one-stepped (Stepped.Done m) (Stepped.Refused r) e = answer-or-refusal 1 _ r e
 one-stepped (Stepped.Refused r) (Stepped.Done m) e = answer-or-refusal 1 _ r (sym e)
 one-stepped (Stepped.Refused r) (Stepped.Refused s) e = ap Stepped.Refused (same-refusal 1 r s e)

@@ -31,15 +31,16 @@ fn say(text: &[u8]) {
     io::write_all(STDOUT_FILENO, text);
 }
 
-fn show(n: u64) {
+// A word and a number.
+fn show(word: &[u8], n: u64) {
+    say(word);
     io::print_decimal(STDOUT_FILENO, n);
 }
 
 // A number of a row: below zero only minus a row's refusal can stand there.
 fn show_signed(n: i32) {
     if n >= 0 {
-        say(b" ");
-        show(n as u64);
+        show(b" ", n as u64);
     } else if n == -6 {
         say(b" -6");
     } else if n == -7 {
@@ -52,19 +53,12 @@ fn show_signed(n: i32) {
 fn show_located(located: Located) {
     match located {
         Located::Done(p) => {
-            say(b"place ");
-            show(p.face as u64);
-            say(b" ");
-            show(p.i as u64);
-            say(b" ");
-            show(p.j as u64);
-            say(b" ");
-            show(p.k as u64);
+            show(b"place ", p.face as u64);
+            show(b" ", p.i as u64);
+            show(b" ", p.j as u64);
+            show(b" ", p.k as u64);
         }
-        Located::Refused(r) => {
-            say(b"refused ");
-            show(r.number() as u64);
-        }
+        Located::Refused(r) => show(b"refused ", r.number() as u64),
     }
     say(b"\n");
 }
@@ -108,8 +102,7 @@ fn vectors() -> [f64; 27] {
 fn show_alone(frame: &[f64], input: &[f64; 27], k: usize)
     requires { ⌜ k < 9 ⌝ }
 {
-    say(b"alone ");
-    show(k as u64);
+    show(b"alone ", k as u64);
     say(b" ");
     show_located(locate::locate(
         frame,
@@ -129,8 +122,7 @@ fn each_alone(frame: &[f64], input: &[f64; 27]) {
 fn show_row(out: &[i32; 44], k: usize)
     requires { ⌜ k < 11 ⌝ }
 {
-    say(b"row ");
-    show(k as u64);
+    show(b"row ", k as u64);
     show_signed(out[4 * k]);
     show_signed(out[4 * k + 1]);
     show_signed(out[4 * k + 2]);
@@ -148,14 +140,8 @@ fn show_rows(out: &[i32; 44]) {
 
 fn show_batch(batch: Batch) {
     match batch {
-        Batch::Done(refused) => {
-            say(b"refused rows ");
-            show(refused as u64);
-        }
-        Batch::Refused(refusal) => {
-            say(b"batch refused ");
-            show(refusal.number() as u64);
-        }
+        Batch::Done(refused) => show(b"refused rows ", refused as u64),
+        Batch::Refused(refusal) => show(b"batch refused ", refusal.number() as u64),
     }
     say(b"\n");
 }

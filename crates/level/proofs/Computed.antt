@@ -1,19 +1,12 @@
 -- A test computed at each number below a bound holds at each of them: how a table's rule is proved once. Assumes nothing.
-use mathlib.Core.Path.{_≡_, subst, sym}
-use mathlib.Core.Bool.{Bool, true, false, _&&_}
+use mathlib.Core.Path.{subst, sym}
+use mathlib.Core.Bool.{Bool, true, _&&_}
 use Prim.Native.Nat.{ℕ, zero, suc, _<_}
 use native.Mathlib.Nat.{not-suc-le-zero}
 use native.Mathlib.Decide.{ℕ-discrete}
 use native.Mathlib.Omega.{arith}
 use lib.Dec.{T}
-
-pub left : (a b : Bool) → T (a && b) → T a
-left true b t = tt
-left false b t = t
-
-pub right : (a b : Bool) → T (a && b) → T b
-right true b t = t
-right false b t = absurd t
+use lib.Ieee.Fits.{and-l, and-r}
 
 -- the test t passes at each number below n
 abbrev pub all : (ℕ → Bool) → ℕ → Bool
@@ -24,6 +17,6 @@ pub at : (t : ℕ → Bool) (n : ℕ) → T (all t n) → (k : ℕ) → k < n �
 at t zero h k l = absurd (not-suc-le-zero l)
 at t (suc n) h k l =
     elim (ℕ-discrete k n) [
-      | yes e ↦ subst (λ (m : ℕ). T (t m)) (sym e) (left (t n) (all t n) h)
-      | no e ↦ at t n (right (t n) (all t n) h) k (omega arith)
+      | yes e ↦ subst (λ (m : ℕ). T (t m)) (sym e) (and-l (t n) (all t n) h)
+      | no e ↦ at t n (and-r (t n) (all t n) h) k (omega arith)
     ]

@@ -5,9 +5,7 @@ use native.Mathlib.Omega.{arith}
 use Prim.Native.Nat.{ℕ}
 use Rattle.reply.specs.declared.Refusal.{Refusal}
 use Rattle.reply.specs.declared.Refusal.the-variants.{BadLevel}
-use Rattle.reply.specs.Replies.{Reply}
-use Rattle.reply.proofs.Entries.{answer-or-refusal, same-refusal, answered, refused, found}
-use Rattle.level.specs.declared.GridLevel.{GridLevel}
+use Rattle.reply.proofs.Entries.{values, answer-or-refusal, same-refusal, answered, refused, found}
 use Rattle.level.specs.declared.Raised.{Raised}
 use Rattle.level.specs.declared.Grid.{Grid}
 use Rattle.level.specs.declared.Gridded.{Gridded}
@@ -16,7 +14,7 @@ use Rattle.level.proofs.Taking.{grid-fine}
 
 pub one-raised : (a b : Raised) → saidRaised a ≡ saidRaised b → a ≡ b
 one-raised (Raised.Done g) (Raised.Done h) e =
-    let v = ap (λ (x : Reply). x .values) e in
+    let v = values e in
     let w : g .0 ≡ h .0 = cc in
     ap Raised.Done (λ n. record { 0 = w n })
 one-raised (Raised.Done g) (Raised.Refused r) e = answer-or-refusal 1 _ r e
@@ -37,7 +35,7 @@ same-grid g h v =
     λ n. record { unit = u n; limit = l n; substrate = s n }
 
 pub one-gridded : (a b : Gridded) → saidGridded a ≡ saidGridded b → a ≡ b
-one-gridded (Gridded.Done g) (Gridded.Done h) e = ap Gridded.Done (same-grid g h (ap (λ (x : Reply). x .values) e))
+one-gridded (Gridded.Done g) (Gridded.Done h) e = ap Gridded.Done (same-grid g h (values e))
 one-gridded (Gridded.Done g) (Gridded.Refused r) e = answer-or-refusal 3 _ r e
 one-gridded (Gridded.Refused r) (Gridded.Done g) e = answer-or-refusal 3 _ r (sym e)
 one-gridded (Gridded.Refused r) (Gridded.Refused s) e = ap Gridded.Refused (same-refusal 3 r s e)

@@ -47,12 +47,7 @@ fn rounded(face: u32, point: Vec2d) -> Located
 {
     let answer = point.to_ijk();
     match answer {
-        Rounded::Done(c) => Located::Done(Place {
-            face,
-            i: c.i,
-            j: c.j,
-            k: c.k,
-        }),
+        Rounded::Done(c) => Located::Done(Place::new(face, c.i, c.j, c.k)),
         Rounded::Refused(refusal) => Located::Refused(refusal),
     }
 }

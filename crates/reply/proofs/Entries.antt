@@ -1,8 +1,8 @@
 -- How an entry's answer meets its reply: the answer where its tests found nothing, the refusal that they found else. Assumes nothing.
 use mathlib.Core.Path.{_≡_, refl, sym, ap, _∙_}
-use mathlib.Core.Bool.{Bool, true, false, true≢false, _||_}
+use mathlib.Core.Bool.{Bool, true, false, true≢false, false≢true, _&&_, _||_}
 use mathlib.Core.List.{List}
-use Prim.Native.Nat.{ℕ, _<_}
+use Prim.Native.Nat.{ℕ}
 use native.Mathlib.Omega.{arith}
 use Rattle.reply.specs.Choice.{pick}
 use Rattle.reply.specs.declared.Refusal.{Refusal}
@@ -26,11 +26,20 @@ pub neither : (a b : Bool) → (a || b) ≡ false → (a ≡ false) × (b ≡ fa
 neither true b e = absurd (true≢false e)
 neither false b e = (refl, e)
 
+-- and one that passes
+pub both : (a b : Bool) → (a && b) ≡ true → (a ≡ true) × (b ≡ true)
+both true b e = (refl, e)
+both false b e = absurd (false≢true e)
+
 pub answers : (n : ℕ) (v : Verdict) (vs : List ℕ) (x : Reply) → v ≡ Fine → x ≡ answer vs → x ≡ reply n v vs
 answers n v vs x f e = e ∙ ap (λ (w : Verdict). reply n w vs) (sym f)
 
 pub refuses : (n : ℕ) (v : Verdict) (vs : List ℕ) (r : Refusal) → v ≡ Refused r → refusal n r ≡ reply n v vs
 refuses n v vs r f = ap (λ (w : Verdict). reply n w vs) (sym f)
+
+-- what two replies that are one hold
+pub values : {a b : Reply} → a ≡ b → a .values ≡ b .values
+values e = ap (λ (x : Reply). x .values) e
 
 -- no answer says what a refusal says, and two refusals that say the same are one
 pub answer-or-refusal : {A : Type 0} (n : ℕ) (vs : List ℕ) (r : Refusal) → answer vs ≡ refusal n r → A
@@ -41,7 +50,7 @@ same-refusal n a b e = same-number a b (ap (λ (x : Reply). x .number) e)
 
 -- what a caller learns: an answer means that nothing was found and has the values, a refusal is the one that was found
 pub answered : (n : ℕ) (v : Verdict) (vs ws : List ℕ) → answer vs ≡ reply n v ws → (v ≡ Fine) × (vs ≡ ws)
-answered n Fine vs ws e = (refl, ap (λ (x : Reply). x .values) e)
+answered n Fine vs ws e = (refl, values e)
 answered n (Refused r) vs ws e = answer-or-refusal n vs r e
 
 pub refused : (n : ℕ) (v : Verdict) (r : Refusal) (ws : List ℕ) → refusal n r ≡ reply n v ws → v ≡ Refused r

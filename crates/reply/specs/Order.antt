@@ -8,10 +8,10 @@ use Rattle.reply.specs.declared.Verdict.{Verdict}
 use Rattle.reply.specs.declared.Verdict.the-variants.{Fine, Refused}
 use Rattle.reply.specs.Replies.{numberOf, Reason}
 
--- P holds of each reason
-abbrev pub Each : (Reason → Type 0) → List Reason → Type 0
+-- P holds of each element of a list
+abbrev pub Each : {A : Type 0} → (A → Type 0) → List A → Type 0
 Each P [] = Unit {0}
-Each P (r ∷ rs) = P r × Each P rs
+Each P (x ∷ xs) = P x × Each P xs
 
 -- r is the refusal of a reason that applies
 pub data Found (r : Refusal) : List Reason → Type 0 where

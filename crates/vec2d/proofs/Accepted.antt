@@ -1,14 +1,16 @@
 -- What is known of a point that rounding accepts: its parts are below 2^25 in size, and both of its coordinates can be split. Assumes nothing.
 use mathlib.Core.Path.{_≡_, refl, sym, ap, _∙_}
-use mathlib.Core.Bool.{Bool, true, false, not, _&&_, true≢false}
-use Prim.Native.Nat.{_-_, _^_, _≤_, _<_}
+use mathlib.Core.Bool.{true, false, not}
+use Prim.Native.Nat.{_-_, _^_, _<_}
 use native.Mathlib.Omega.{arith}
 use lib.Dec.{lit≤}
-use lib.Ieee.{Float, nan, inf, fin, binary64, ofBits, div, lt, le}
+use lib.Ieee.{Float, binary64, ofBits, div, lt, le}
+use borrow.Author.Tests.{not-true, not-false}
 use Rattle.reply.specs.declared.Verdict.the-variants.{Fine}
-use Rattle.reply.proofs.Entries.{passed, neither}
+use Rattle.reply.proofs.Entries.{passed, neither, both}
 use Rattle.double.specs.Double.{finite, sizeOf, wholeOf, limit, rsin60, two}
 use Rattle.double.specs.Sizes.{Under, Upto}
+use Rattle.double.proofs.Sizes.{size-finite}
 use Rattle.double.proofs.Nonnegative.{upto-le, size-upto, product-upto, add-upto, halved-upto, rsin60-upto, whole-le}
 use Rattle.double.proofs.Tests.{lt-under, lt-not-le, limit-value, between-lt}
 use Rattle.vec2d.specs.declared.Vec2d.{Vec2d}
@@ -17,19 +19,9 @@ use Rattle.vec2d.specs.Rounding.{tooFar, minusLimit, inside, roundVerdic
 
 -- ---- the two tests
 
-size-finite : (x : Float) → finite x ≡ true → finite (sizeOf x) ≡ true
-size-finite nan f = f
-size-finite (inf s) f = f
-size-finite (fin s m e) f = f
-
 part-near : (x : Float) → finite x ≡ true → le limit (sizeOf x) ≡ false → Under (2 ^ 25) x
 unfolding ofBits
 part-near x f h = lt-under (2 ^ 25) x limit limit-value (lt-not-le (sizeOf x) limit (size-finite x f) refl ∙ ap not h)
-
-both : (a b : Bool) → not (a && b) ≡ false → (a ≡ true) × (b ≡ true)
-both true true e = (refl, refl)
-both true false e = absurd (true≢false e)
-both false b e = absurd (true≢false e)
 
 -- A point that rounding accepts has parts that are numbers up to 2^25 in size.
 pub accepted : (v : Vec2d) → roundVerdict v ≡ Fine → Near v
@@ -37,7 +29,7 @@ unfolding isPoint tooFar
 accepted v e =
     let p = passed (not (isPoint v)) _ _ e in
     let q = passed (tooFar v) _ _ (p .1) in
-    let f = both (finite (v .x)) (finite (v .y)) (p .0) in
+    let f = both (finite (v .x)) (finite (v .y)) (not-false _ (p .0)) in
     let n = neither (le limit (sizeOf (v .x))) (le limit (sizeOf (v .y))) (q .0) in
     record { x = part-near (v .x) (f .0) (n .0); y = part-near (v .y) (f .1) (n .1) }
 
@@ -47,24 +39,16 @@ unfolding ofBits
 part-inside x p q =
     let b = between-lt _ _ x p q in
     (b .0, not-true _ (sym (lt-not-le (sizeOf x) limit (size-finite x (b .0)) refl) ∙ b .1))
-  where
-    not-true : (b : Bool) → not b ≡ true → b ≡ false
-    not-true true e = sym e
-    not-true false e = refl
 
 pub inside-fine : (v : Vec2d) → inside v ≡ true → roundVerdict v ≡ Fine
 unfolding inside isPoint tooFar
 inside-fine v e =
-    let a = each _ _ e in
-    let b = each _ _ (a .0) in
-    let c = each _ _ (b .0) in
+    let a = both _ _ e in
+    let b = both _ _ (a .0) in
+    let c = both _ _ (b .0) in
     let x = part-inside (v .x) (c .0) (c .1) in
     let y = part-inside (v .y) (b .1) (a .1) in
     rw (x .0, y .0, x .1, y .1)
-  where
-    each : (a b : Bool) → (a && b) ≡ true → (a ≡ true) × (b ≡ true)
-    each true b e = (refl, e)
-    each false b e = absurd (true≢false (sym e))
 
 -- ---- the two coordinates: 38745321 is 2^25 · 1.1547005383792515, rounded up
 

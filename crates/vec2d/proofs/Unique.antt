@@ -3,13 +3,12 @@ use mathlib.Core.Path.{_≡_, refl, sym, ap, _∙_}
 use Prim.Native.Nat.{ℕ}
 use native.Mathlib.Omega.{arith}
 use lib.Dec.{T}
-use lib.Ieee.{Float, binary64, fits, toBits, ofBits}
-use lib.Ieee.Bits.{ofBits-toBits}
+use lib.Ieee.{binary64, fits}
 use Rattle.reply.specs.declared.Refusal.{Refusal}
 use Rattle.reply.specs.declared.Verdict.{Verdict}
 use Rattle.reply.specs.declared.Verdict.the-variants.{Fine}
-use Rattle.reply.specs.Replies.{Reply}
-use Rattle.reply.proofs.Entries.{answer-or-refusal, same-refusal, answered, refused}
+use Rattle.reply.proofs.Entries.{values, answer-or-refusal, same-refusal, answered, refused}
+use Rattle.double.proofs.Sign.{same-bits}
 use Rattle.coordijk.specs.declared.CoordIJK.{CoordIJK}
 use Rattle.coordijk.specs.Coordinates.{coordValues}
 use Rattle.coordijk.proofs.Unique.{same-coord}
@@ -23,7 +22,7 @@ use Rattle.vec2d.specs.Closeness.{saidAlike}
 
 -- Two answers of a rounding that say the same are one.
 pub one-rounded : (a b : Rounded) → saidRounded a ≡ saidRounded b → a ≡ b
-one-rounded (Rounded.Done c) (Rounded.Done d) e = let v = ap (λ (x : Reply). x .values) e in ap Rounded.Done (same-coord c d (cc) (cc) (cc))
+one-rounded (Rounded.Done c) (Rounded.Done d) e = let v = values e in ap Rounded.Done (same-coord c d (cc) (cc) (cc))
 one-rounded (Rounded.Done c) (Rounded.Refused r) e = answer-or-refusal 3 _ r e
 one-rounded (Rounded.Refused r) (Rounded.Done c) e = answer-or-refusal 3 _ r (sym e)
 one-rounded (Rounded.Refused r) (Rounded.Refused s) e = ap Rounded.Refused (same-refusal 3 r s e)
@@ -48,14 +47,10 @@ abbrev pub HeldAt : Pointed → Type 0
 HeldAt (Pointed.Done v) = Held v
 HeldAt (Pointed.Refused r) = Unit
 
--- Two values of the format with the same 64 bits are one.
-pub same-bits : (x y : Float) → T (fits binary64 x) → T (fits binary64 y) → toBits binary64 x ≡ toBits binary64 y → x ≡ y
-same-bits x y f g e = sym (ofBits-toBits binary64 x f) ∙ (ap (ofBits binary64) e ∙ ofBits-toBits binary64 y g)
-
 -- Two points that a program holds, or refusals, that say the same are one.
 pub one-pointed : (a b : Pointed) → HeldAt a → HeldAt b → saidPointed a ≡ saidPointed b → a ≡ b
 one-pointed (Pointed.Done v) (Pointed.Done w) f g e =
-    let s = ap (λ (x : Reply). x .values) e in
+    let s = values e in
     let x = same-bits (v .x) (w .x) (f .x) (g .x) (cc) in
     let y = same-bits (v .y) (w .y) (f .y) (g .y) (cc) in
     λ n. Pointed.Done (point (x n) (y n))
@@ -66,8 +61,8 @@ one-pointed (Pointed.Refused r) (Pointed.Refused s) f g e = ap Pointed.Refused (
 -- Two answers of near-equality that say the same are one.
 pub one-alike : (a b : Alike) → saidAlike a ≡ saidAlike b → a ≡ b
 one-alike Alike.Yes Alike.Yes e = refl
-one-alike Alike.Yes Alike.No e = let v = ap (λ (x : Reply). x .values) e in let z : _≡_ {A = ℕ} 0 1 = cc in absurd (omega arith)
-one-alike Alike.No Alike.Yes e = let v = ap (λ (x : Reply). x .values) e in let z : _≡_ {A = ℕ} 0 1 = cc in absurd (omega arith)
+one-alike Alike.Yes Alike.No e = let v = values e in let z : _≡_ {A = ℕ} 0 1 = cc in absurd (omega arith)
+one-alike Alike.No Alike.Yes e = let v = values e in let z : _≡_ {A = ℕ} 0 1 = cc in absurd (omega arith)
 one-alike Alike.No Alike.No e = refl
 one-alike Alike.Yes (Alike.Refused r) e = answer-or-refusal 1 _ r e
 one-alike Alike.No (Alike.Refused r) e = answer-or-refusal 1 _ r e

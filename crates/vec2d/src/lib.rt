@@ -233,10 +233,7 @@ impl Vec2d {
         let k = c.k as f64;
         let i = (c.i as f64) - k;
         let j = (c.j as f64) - k;
-        Vec2d {
-            x: i - j / 2.0,
-            y: j * Vec2d::SIN60,
-        }
+        Vec2d::new(i - j / 2.0, j * Vec2d::SIN60)
     }
 
     // The centre of a hexagon.
@@ -293,10 +290,7 @@ fn share(p: Vec2d, q: Vec2d, s: Vec2d, divisor: f64) -> f64
 fn reached(p: Vec2d, s: Vec2d, t: f64) -> Vec2d
     ensures { λ r. ⌜ r ≡ reachedOf p s t ⌝ }
 {
-    Vec2d {
-        x: double::mul_add(t, s.x, p.x),
-        y: double::mul_add(t, s.y, p.y),
-    }
+    Vec2d::new(double::mul_add(t, s.x, p.x), double::mul_add(t, s.y, p.y))
 }
 
 impl Crossing {
@@ -319,10 +313,7 @@ impl Line {
     fn along(self) -> Vec2d
         ensures { λ r. ⌜ r ≡ along self ⌝ }
     {
-        Vec2d {
-            x: self.to.x - self.from.x,
-            y: self.to.y - self.from.y,
-        }
+        Vec2d::new(self.to.x - self.from.x, self.to.y - self.from.y)
     }
 
     fn is_line(self) -> bool

@@ -14,6 +14,7 @@ use lib.Ieee.Exact.{HasValue, round-exact}
 use lib.Ieee.Order.{round-mono, le-of-values}
 use lib.Ieee.Positive.{positive, positive-of-value, values-of-le, le-trans-positive, between}
 use borrow.Author.Tests.{not-false}
+use Rattle.reply.proofs.Entries.{both}
 use Rattle.double.specs.Double.{sizeOf, mulAdd, sphereLow, sphereHigh}
 use Rattle.double.proofs.Sizes.{round-size}
 use Rattle.double.proofs.Nonnegative.{signed, add-plus, square-plus}
@@ -24,7 +25,7 @@ use Rattle.vec3d.specs.Vectors.{dotOf, offSphere}
 use Rattle.vec3d.specs.Frame.{faceAt, someBelow, badFrame}
 use Rattle.vec3d.specs.AsAsked.{loose, unfit, nine, certain, nearOne, doubtful}
 use Rattle.vec3d.proofs.Passing.{none-at}
-use Rattle.vec3d.proofs.OnePass.{both, parts-finite, under-narrow, none-below, by-faces}
+use Rattle.vec3d.proofs.OnePass.{parts-finite, under-narrow, none-below, by-faces}
 
 -- ---- u and v: squares that sum to less than 9
 
@@ -32,7 +33,7 @@ tight-axis : (v : Vec3d) → lt (dotOf v v) nine ≡ true → loose v ≡ false
 unfolding dotOf loose ofBits
 tight-axis v e =
     let f = parts-finite v (below-finite (v .x) (v .y) (v .z) nine refl e) in
-    let u = below-under (v .x) (v .y) (v .z) 3 nine (lit≤ tt) (refl, refl) (f .0) (f .1) (f .2) e in
+    let u = below-under (v .x) (v .y) (v .z) 3 nine (lit< tt) (refl, refl) (f .0) (f .1) (f .2) e in
     rw (under-narrow (v .x) (u .0), under-narrow (v .y) (u .1), under-narrow (v .z) (u .2))
 
 -- ---- the centre: a square that is 1 but for 2^-41

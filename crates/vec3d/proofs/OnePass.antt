@@ -13,19 +13,16 @@ use lib.Ieee.Bits.{is-true}
 use lib.Ieee.Fits.{down-pos}
 use lib.Ieee.Order.{le-of-values}
 use borrow.Author.Tests.{eq-eqb, not-false}
-use Rattle.reply.proofs.Entries.{neither}
+use Rattle.reply.proofs.Entries.{neither, both}
 use Rattle.double.specs.Double.{finite, sizeOf, mulAdd, three, sphereLow, sphereHigh}
 use Rattle.double.specs.Sizes.{Under}
+use Rattle.double.proofs.Sizes.{size-finite}
 use Rattle.double.proofs.Tests.{lt-not-le, between-le, le-between, three-value}
 use Rattle.vec3d.specs.declared.Vec3d.{Vec3d}
 use Rattle.vec3d.specs.Vectors.{dotOf, badNumber, offSphere, wide}
 use Rattle.vec3d.specs.Frame.{vecAt, someBelow, nonFinite, badAxes, badFrame}
 use Rattle.vec3d.specs.AsAsked.{narrow, loose, unfit}
 use Rattle.vec3d.proofs.Passing.{none-at}
-
-pub both : (a b : Bool) → (a && b) ≡ true → (a ≡ true) × (b ≡ true)
-both true b e = (refl, e)
-both false b e = absurd (false≢true e)
 
 -- what is at most a number is a number
 le-finite : (x y : Float) → finite y ≡ true → le (sizeOf x) y ≡ true → finite x ≡ true
@@ -35,11 +32,6 @@ le-finite (inf s) nan f e = absurd (false≢true f)
 le-finite (inf s) (inf t) f e = absurd (false≢true f)
 le-finite (inf s) (fin t n d) f e = absurd (false≢true e)
 le-finite (fin s m k) y f e = refl
-
-size-finite : (x : Float) → finite x ≡ true → finite (sizeOf x) ≡ true
-size-finite nan f = f
-size-finite (inf s) f = f
-size-finite (fin s m k) f = refl
 
 three-finite : finite three ≡ true
 unfolding ofBits

@@ -1,13 +1,13 @@
 -- With a frame and a vector that pass, no number on the way to the nearest face is a NaN or an infinity. Assumes nothing.
-use mathlib.Core.Path.{_≡_, refl}
-use mathlib.Core.Bool.{Bool, true, false, not, _&&_, _||_, true≢false}
+use mathlib.Core.Path.{_≡_}
+use mathlib.Core.Bool.{true, false, not, _||_}
 use mathlib.Core.List.{List}
 use Prim.Native.Nat.{ℕ, _+_, _*_, _^_, _≤_, _<_}
 use native.Mathlib.Omega.{arith}
 use lib.Dec.{lit≤}
 use lib.Ieee.{Float, binary64, mul, le, lt}
 use borrow.Author.Tests.{not-false}
-use Rattle.reply.proofs.Entries.{neither}
+use Rattle.reply.proofs.Entries.{neither, both}
 use Rattle.double.specs.Double.{finite, sizeOf, mulAdd, three, sphereLow, sphereHigh}
 use Rattle.double.specs.Sizes.{Under}
 use Rattle.double.proofs.Sizes.{mul-under, mul-add-under, sub-under}
@@ -15,7 +15,7 @@ use Rattle.double.proofs.Tests.{not-above-under, three-value}
 use Rattle.double.proofs.Squares.{sphere-under}
 use Rattle.vec3d.specs.declared.Vec3d.{Vec3d}
 use Rattle.vec3d.specs.Vectors.{dotOf, minusOf, badNumber, offSphere, wide}
-use Rattle.vec3d.specs.Frame.{vecAt, faceAt, badAxes, badFrame}
+use Rattle.vec3d.specs.Frame.{faceAt, badAxes, badFrame}
 use Rattle.vec3d.specs.Nearest.{distanceOf}
 use Rattle.vec3d.specs.Sizes.{PartsUnder, AxesUnder}
 use Rattle.vec3d.proofs.Passing.{passed-face, passed-vector}
@@ -32,18 +32,12 @@ numbers v e =
     let q = neither (not (finite (v .x))) (not (finite (v .y))) (p .0) in
     record { x = not-false _ (q .0); y = not-false _ (q .1); z = not-false _ (p .1) }
 
--- a test of two parts that is not failed: its second part holds
-pub upper : (a b : Bool) → not (a && b) ≡ false → b ≡ true
-upper true true e = refl
-upper true false e = absurd (true≢false e)
-upper false b e = absurd (true≢false e)
-
 -- Each part of a vector that passes is at most 2 in size.
 pub unit-under : (v : Vec3d) → badNumber v ≡ false → offSphere v ≡ false → PartsUnder 2 v
 unfolding offSphere dotOf
 unit-under v b o =
     let f = numbers v b in
-    let u = sphere-under (v .x) (v .y) (v .z) (f .x) (f .y) (f .z) (upper (le sphereLow (dotOf v v)) (le (dotOf v v) sphereHigh) o) in
+    let u = sphere-under (v .x) (v .y) (v .z) (f .x) (f .y) (f .z) (both (le sphereLow (dotOf v v)) (le (dotOf v v) sphereHigh) (not-false _ o) .1) in
     record { x = u .0; y = u .1; z = u .2 }
 
 -- Each part of a u or v that passes is at most 3 in size.

@@ -1,10 +1,9 @@
 -- Two outcomes of the nearest face that meet one promise coincide. Assumes nothing.
-use mathlib.Core.Path.{_≡_, sym, ap, _∙_}
+use mathlib.Core.Path.{_≡_, sym, ap}
 use lib.Dec.{T}
-use lib.Ieee.{Float, binary64, fits, toBits, ofBits}
-use lib.Ieee.Bits.{ofBits-toBits}
-use Rattle.reply.specs.Replies.{Reply}
-use Rattle.reply.proofs.Entries.{answer-or-refusal, same-refusal}
+use lib.Ieee.{binary64, fits}
+use Rattle.reply.proofs.Entries.{values, answer-or-refusal, same-refusal}
+use Rattle.double.proofs.Sign.{same-bits}
 use Rattle.vec3d.specs.declared.Nearest.{Nearest}
 use Rattle.vec3d.specs.declared.NearestFace.{NearestFace}
 use Rattle.vec3d.specs.declared.NearestFace.the-variants.{Done, Refused}
@@ -15,13 +14,9 @@ abbrev pub Held : NearestFace → Type 0
 Held (Done n) = T (fits binary64 (n .distance))
 Held (Refused r) = Unit
 
--- Two values of the format with the same 64 bits are one.
-same-bits : (x y : Float) → T (fits binary64 x) → T (fits binary64 y) → toBits binary64 x ≡ toBits binary64 y → x ≡ y
-same-bits x y f g e = sym (ofBits-toBits binary64 x f) ∙ (ap (ofBits binary64) e ∙ ofBits-toBits binary64 y g)
-
 pub one-nearest : (a b : NearestFace) → Held a → Held b → saidNearest a ≡ saidNearest b → a ≡ b
 one-nearest (Done n) (Done m) f g e =
-    let v = ap (λ (x : Reply). x .values) e in
+    let v = values e in
     let face : n .face ≡ m .face = cc in
     let distance = same-bits (n .distance) (m .distance) f g (cc) in
     λ k. Done (record { face = face k; distance = distance k })

@@ -83,11 +83,7 @@ impl Vec3d {
     fn minus(self, other: Vec3d) -> Vec3d
         ensures { λ r. ⌜ r ≡ minusOf self other ⌝ }
     {
-        Vec3d {
-            x: self.x - other.x,
-            y: self.y - other.y,
-            z: self.z - other.z,
-        }
+        Vec3d::new(self.x - other.x, self.y - other.y, self.z - other.z)
     }
 
     // Whether a part is a NaN or an infinity.
@@ -131,11 +127,7 @@ pub fn vec_at(s: &[f64], at: usize) -> Vec3d
     requires { ⌜ at + 3 ≤ length (now s) ⌝ }
     ensures { λ r. ⌜ r ≡ vecAt (now (s .entry)) at ⌝ }
 {
-    Vec3d {
-        x: s[at],
-        y: s[at + 1],
-        z: s[at + 2],
-    }
+    Vec3d::new(s[at], s[at + 1], s[at + 2])
 }
 
 // The one way to a face's centre, u and v. Public for the projection, which has tested the frame.

@@ -8,8 +8,9 @@ use Rattle.locate.proofs.rounded.Tie as tie
 
 returns : tie.Need-returns
 returns c =
-    let a = c .before .before .before .before .args in
-    round-answers (a .face) _ (a .point) (ap saidRounded (sym (c .before .answer .given .1)) ∙ c .before .before .before .to-ijk .ensures)
+    let a = c .before .before .before .before .before .args in
+    rw (c .new .ensures)
+    (round-answers (a .face) _ (a .point) (ap saidRounded (sym (c .before .before .answer .given .1)) ∙ c .before .before .before .before .to-ijk .ensures))
 
 returns-2 : tie.Need-returns-2
 returns-2 c =
@@ -17,4 +18,4 @@ returns-2 c =
     round-refuses (a .face) (c .before .answer2 .given .0 .0) (a .point) (ap saidRounded (sym (c .before .answer2 .given .1)) ∙ c .before .before .before .to-ijk .ensures)
 
 pub rounded-spec : {M : Type 1} → statement M
-rounded-spec = tie.close (tie.spec (λ c κs. search needs) (λ c. search needs) (λ c. search needs) returns returns-2)
+rounded-spec = tie.close (tie.spec (λ c κs. search needs) (λ c. search needs) (λ c κs. search needs) (λ c. search needs) returns returns-2)

@@ -15,18 +15,18 @@ small : (c : tie.After-offset) → Upto 5 (c .offset .result)
 small c = let a = c .before in offset-small-of (a .args .self .odd) (a .args .v) _ (c .offset .ensures) (a .pre .1)
 
 add-new : tie.Need-add-new
-add-new c = let b = c .before .before in omega (arith, small b .i-upto, b .before .pre .0 .i-upto)
+add-new c = let b = c .before .before .before in omega (arith, small b .i-upto, b .before .pre .0 .i-upto)
 
 add-new-2 : tie.Need-add-new-2
-add-new-2 c = let b = c .before .before .before .before in omega (arith, small b .j-upto, b .before .pre .0 .j-upto)
+add-new-2 c = let b = c .before .before .before .before .before in omega (arith, small b .j-upto, b .before .pre .0 .j-upto)
 
 add-new-3 : tie.Need-add-new-3
-add-new-3 c = let b = c .before .before .before .before .before .before in omega (arith, small b .k-upto, b .before .pre .0 .k-upto)
+add-new-3 c = let b = c .before .before .before .before .before .before .before in omega (arith, small b .k-upto, b .before .pre .0 .k-upto)
 
 returns : tie.Need-returns
 unfolding cornerOf
 returns c =
-    let b = c .before .before .before .before .before .before .before .before in
+    let b = c .before .before .before .before .before .before .before .before .before in
     c .reduce .ensures ∙
     (ap (λ (d : CoordIJK). reduced (d .i) (d .j) (d .k)) (c .before .new .ensures) ∙
     ap (shiftedBy (coordOf (b .before .args .self .centre))) (b .offset .ensures))

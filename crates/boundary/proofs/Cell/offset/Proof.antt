@@ -3,7 +3,8 @@ use mathlib.Core.Path.{_≡_, _∙_}
 use mathlib.Core.Bool.{Bool, true, false, _&&_}
 use Prim.Native.Nat.{ℕ, _<_}
 use lib.Dec.{T, eqb, eqb→eq}
-use Rattle.level.proofs.Computed.{left, right, all, at}
+use lib.Ieee.Fits.{and-l, and-r}
+use Rattle.level.proofs.Computed.{all, at}
 use Rattle.coordijk.specs.declared.CoordIJK.{CoordIJK}
 use Rattle.coordijk.specs.Coordinates.{coord}
 use Rattle.boundary.specs.Corners.{offsetOf}
@@ -17,10 +18,10 @@ same a b = eqb (a .i) (b .i) && (eqb (a .j) (b .j) && eqb (a .k) (b .k))
 
 are-same : (a b : CoordIJK) → T (same a b) → a ≡ b
 are-same a b t =
-    let r = right (eqb (a .i) (b .i)) _ t in
-    let i = eqb→eq _ _ (left (eqb (a .i) (b .i)) _ t) in
-    let j = eqb→eq _ _ (left (eqb (a .j) (b .j)) _ r) in
-    let k = eqb→eq _ _ (right (eqb (a .j) (b .j)) _ r) in
+    let r = and-r (eqb (a .i) (b .i)) _ t in
+    let i = eqb→eq _ _ (and-l (eqb (a .i) (b .i)) _ t) in
+    let j = eqb→eq _ _ (and-l (eqb (a .j) (b .j)) _ r) in
+    let k = eqb→eq _ _ (and-r (eqb (a .j) (b .j)) _ r) in
     λ n. coord (i n) (j n) (k n)
 
 abbrev column : Bool → ℕ → ℕ → ℕ → ℕ → Bool

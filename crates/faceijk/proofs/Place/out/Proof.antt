@@ -18,7 +18,7 @@ over-requires c κs =
 
 returns : tie.Need-returns
 unfolding stepOut
-returns c = cc
+returns c = rw (c .over .ensures, c .before .start .ensures, c .before .before .edge-out .ensures)
 
 pub out-spec : {M : Type 1} → statement M
 out-spec = tie.close (tie.spec (λ c κs. search needs) (λ c κs. search needs) over-requires returns)

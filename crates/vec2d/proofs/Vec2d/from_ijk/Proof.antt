@@ -10,11 +10,11 @@ use Rattle.vec2d.proofs.Vec2d.from_ijk.Tie as tie
 returns : tie.Need-returns
 unfolding centreOf
 returns c =
-    let p = c .before .before .before .args .c in
+    let p = c .before .before .before .before .args .c in
     let hi : p .i ≤ 2 ^ 53 = omega arith in
     let hj : p .j ≤ 2 ^ 53 = omega arith in
     let hk : p .k ≤ 2 ^ 53 = omega arith in
-    rw (sub-ints (p .i) (p .k) hi hk, sub-ints (p .j) (p .k) hj hk)
+    rw (c .new .ensures, sub-ints (p .i) (p .k) hi hk, sub-ints (p .j) (p .k) hj hk)
 
 pub from-ijk-spec : {M : Type 1} → statement M
-from-ijk-spec = tie.close (tie.spec (λ c. search needs) (λ c. search needs) (λ c. search needs) returns)
+from-ijk-spec = tie.close (tie.spec (λ c. search needs) (λ c. search needs) (λ c. search needs) (λ c κs. search needs) returns)

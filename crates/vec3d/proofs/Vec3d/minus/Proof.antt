@@ -6,8 +6,7 @@ use Rattle.vec3d.proofs.Vec3d.minus.Tie as tie
 
 returns : tie.Need-returns
 unfolding minusOf
-returns c = search needs
+returns c = c .new .ensures
 
 pub minus-spec : {M : Type 1} → statement M
-minus-spec = tie.close
-    (tie.spec returns)
+minus-spec = tie.close (tie.spec (λ c κs. search needs) returns)
