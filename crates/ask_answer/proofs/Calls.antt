@@ -35,7 +35,8 @@ use Rattle.boundary.specs.Boundaries.{boundaryReply}
 use Rattle.lent.specs.Lent.{held, Gives, GivesFramed}
 use Rattle.lent_places.specs.Places.{GivesNearest}
 use Rattle.lent_borders.specs.Borders.{marksOf, pointsOf, GivesBoundary}
-use Rattle.lent_grid.specs.Lines.{linesReply, lineAt}
+use Rattle.lent_grid.specs.Lines.{linesReply}
+use Rattle.vec2d.specs.Meeting.{lineAt}
 use Rattle.ask_read.specs.declared.Asked.the-variants.{Round, Centre, Meet, Turn, Step, Cross, Settle, Direction, Same, Nearest, Corners}
 use Rattle.ask_read.specs.declared.Asked.{Asked}
 use Rattle.ask_answer.specs.Answers.{kindsOf, doublesIn, Holds}

@@ -4,7 +4,7 @@ use mathlib.Core.Bool.{Bool}
 use mathlib.Core.List.{List, [], _∷_}
 use Prim.Native.Nat.{ℕ, suc, _+_, _-_}
 use lib.Dec.{eqb}
-use lib.Ieee.{Float, nan}
+use lib.Ieee.{Float}
 use lib.ListN.{getD, drop}
 use Rattle.reply.specs.Choice.{pick}
 use Rattle.reply.specs.Text.{text}
@@ -14,18 +14,16 @@ use Rattle.coordijk.specs.declared.CoordIJK.{CoordIJK}
 use Rattle.coordijk.specs.Coordinates.{coord}
 use Rattle.faceijk.specs.declared.Place.{Place}
 use Rattle.faceijk.specs.Entries.{turnReply, stepReply, crossReply, settleReply, directionReply, sameReply}
-use Rattle.vec2d.specs.declared.Vec2d.{Vec2d}
-use Rattle.vec2d.specs.Points.{point}
+use Rattle.vec2d.specs.Points.{pointAt}
 use Rattle.vec2d.specs.Rounding.{roundReply}
 use Rattle.vec2d.specs.Centre.{centreReply}
-use Rattle.vec2d.specs.Meeting.{meetReply}
+use Rattle.vec2d.specs.Meeting.{lineAt, meetReply}
 use Rattle.vec3d.specs.Frame.{vecAt}
 use Rattle.vec3d.specs.Nearest.{nearestReply}
 use Rattle.locate.specs.Locating.{locateReply}
 use Rattle.boundary.specs.Corners.{cornersReply}
 use Rattle.boundary.specs.Boundaries.{boundaryReply}
 use Rattle.lent.specs.Lent.{bitsOf}
-use Rattle.lent_grid.specs.Lines.{lineAt}
 use Rattle.ask_read.specs.declared.Asked.{Asked}
 use Rattle.ask_read.specs.declared.Question.{Question}
 use Rattle.ask_answer.specs.declared.Answer.{Answer}
@@ -47,10 +45,6 @@ coordAt ns n = coord (numberAt ns n) (numberAt ns (n + 1)) (numberAt ns (n + 2))
 abbrev pub placeAt : List ℕ → ℕ → ℕ → Place
 placeAt ns f n =
     record { face = numberAt ns f; i = numberAt ns n; j = numberAt ns (n + 1); k = numberAt ns (n + 2) }
-
--- a plane point
-abbrev pub pointAt : List Float → ℕ → Vec2d
-pointAt ds n = point (getD ds n nan) (getD ds (n + 1) nan)
 
 -- the reply of the entry that is asked, over the frame, the numbers and the doubles. A line that cannot be read gets 14, and the help has no values
 unfoldable pub replyOf : Asked → List Float → List ℕ → List Float → Reply

@@ -6,11 +6,12 @@ use lib.Dec.{lit≤}
 use lib.ListN.{length}
 use Rattle.reply.specs.declared.Refusal.the-variants.{BadLine}
 use Rattle.reply.specs.Replies.{zeros}
+use Rattle.vec2d.specs.Points.{pointAt}
 use Rattle.vec3d.specs.Frame.{vecAt}
 use Rattle.lent.specs.Lent.{bitsOf}
 use Rattle.ask_read.specs.declared.Asked.{Asked}
 use Rattle.ask_read.specs.declared.Asked.the-variants.{Round, Centre, Meet, Turn, Step, Cross, Settle, Direction, Same, Nearest, Place, Corners, Hexagon, Pentagon, Help, Unreadable}
-use Rattle.ask_answer.specs.Answers.{numberAt, flagAt, coordAt, placeAt, pointAt, replyOf, replyTo, valuesIn, numbersIn, doublesIn, Holds}
+use Rattle.ask_answer.specs.Answers.{numberAt, flagAt, coordAt, placeAt, replyOf, replyTo, valuesIn, numbersIn, doublesIn, Holds}
 use Rattle.ask_answer.proofs.Holding.{refused}
 use Rattle.ask_answer.proofs.Calls.{round, centre, meet, turn, step, cross, direction, same, nearest, place-of, corners, border-of}
 use borrow.Author.Needs.{needs}
