@@ -1,23 +1,26 @@
 -- What answering a line means: what is written lies within the buffer, a line that cannot be read gets 14, the help has no line, and two outcomes of one promise coincide. Assumes nothing.
-use mathlib.Core.Path.{_≡_, ap, subst, _∙_}
+use mathlib.Core.Path.{_≡_, refl, ap, subst, _∙_}
 use mathlib.Core.Bool.{Bool, true, false}
-use mathlib.Core.List.{List, [], _++_}
-use Prim.Native.Nat.{ℕ, _≤_}
+use mathlib.Core.List.{List, [], _∷_, _++_}
+use Prim.Native.Nat.{ℕ, _≤_, _<_}
 use native.Mathlib.Omega.{arith}
-use lib.Dec.{ltb}
+use lib.Dec.{ltb, eqb}
 use lib.Ieee.{Float}
-use lib.ListN.{length, drop, length-append}
+use lib.ListN.{length, getD, drop, length-append}
 use Rattle.reply.specs.Choice.{pick}
+use Rattle.reply.specs.Text.{text}
+use Rattle.reply.specs.Replies.{Reply}
+use Rattle.text.specs.Numbers.{field, space, newline}
 use Rattle.text.specs.Writing.{Wrote}
 use Rattle.text.proofs.Unique.{one-wrote}
 use Rattle.ask_read.specs.declared.Asked.{Asked}
-use Rattle.ask_read.specs.declared.Asked.the-variants.{Help}
+use Rattle.ask_read.specs.declared.Asked.the-variants.{Round, Centre, Meet, Turn, Step, Cross, Settle, Direction, Same, Nearest, Place, Corners, Hexagon, Pentagon, Help, Unreadable}
 use Rattle.ask_read.specs.declared.Question.{Question}
 use Rattle.ask_read.specs.Questions.{questionOf, unreadable}
 use Rattle.ask_answer.specs.declared.Answer.{Answer}
 use Rattle.ask_answer.specs.Answers.{Says, saidAnswer, replyTo, replyOf}
 use Rattle.ask_answer.proofs.Saying.{says}
-use Rattle.ask_write.specs.Texts.{answerText, valuesText, refusedText, questionText, askText}
+use Rattle.ask_write.specs.Texts.{textTo, shownOf, nameOf, answerText, valuesText, refusedText, questionText, askText}
 
 -- what was written for the question that a line asks and for its reply answers the line
 pub written : (frame : List Float) (bs : List ℕ) (q : Question) (a : Answer) {old new : List ℕ} {n : ℕ} → q ≡ questionOf bs → Says (q .asked) (replyTo frame q) a → Wrote 1100 (answerText (q .asked) (saidAnswer (q .asked) a)) old new n → Wrote 1100 (askText frame bs) old new n
@@ -42,6 +45,45 @@ unreadable-text frame bs e = ap (questionText frame) e
 pub help-text : (frame : List Float) (bs : List ℕ) → questionOf bs .asked ≡ Help → askText frame bs ≡ []
 unfolding askText answerText valuesText replyOf
 help-text frame bs e = ap (λ (a : Asked). answerText a (replyOf a frame (questionOf bs .numbers) (questionOf bs .doubles))) e
+
+some-refusal : (n : ℕ) → 0 < length (refusedText n)
+unfolding refusedText
+some-refusal n = omega (arith, length-append (text "refused") (field n ++ (space ∷ (nameOf n ++ newline ∷ []))))
+
+-- and nothing else is without one, so that a length of 0 tells the help where there is room
+ends : (x y : List ℕ) (b : ℕ) → 0 < length (x ++ (y ++ b ∷ []))
+ends x y b = omega (arith, length-append x (y ++ b ∷ []), length-append y (b ∷ []))
+
+some-line : (k : ℕ) (ks : List ℕ) (r : Reply) → 0 < length (pick (eqb (r .number) 0) (valuesText (k ∷ ks) (r .values)) (refusedText (r .number)))
+unfolding valuesText
+some-line k ks r = go (eqb (r .number) 0)
+  where
+    go : (t : Bool) → 0 < length (pick t (textTo (k ∷ ks) (r .values) (shownOf (length (k ∷ ks)) (getD (r .values) 0 0)) ++ newline ∷ []) (refusedText (r .number)))
+    go true = ends [] (textTo (k ∷ ks) (r .values) (shownOf (length (k ∷ ks)) (getD (r .values) 0 0))) newline
+    go false = some-refusal (r .number)
+
+some : (a : Asked) (frame : List Float) (ns : List ℕ) (ds : List Float) → (a ≡ Help → ⊥) → 0 < length (answerText a (replyOf a frame ns ds))
+unfolding answerText replyOf
+some Round frame ns ds h = some-line 110 _ (replyOf Round frame ns ds)
+some Turn frame ns ds h = some-line 110 _ (replyOf Turn frame ns ds)
+some Step frame ns ds h = some-line 110 _ (replyOf Step frame ns ds)
+some Cross frame ns ds h = some-line 110 _ (replyOf Cross frame ns ds)
+some Settle frame ns ds h = some-line 110 _ (replyOf Settle frame ns ds)
+some Direction frame ns ds h = some-line 110 _ (replyOf Direction frame ns ds)
+some Nearest frame ns ds h = some-line 110 _ (replyOf Nearest frame ns ds)
+some Place frame ns ds h = some-line 110 _ (replyOf Place frame ns ds)
+some Corners frame ns ds h = some-line 110 _ (replyOf Corners frame ns ds)
+some Hexagon frame ns ds h = some-line 110 _ (replyOf Hexagon frame ns ds)
+some Pentagon frame ns ds h = some-line 110 _ (replyOf Pentagon frame ns ds)
+some Centre frame ns ds h = some-line 120 _ (replyOf Centre frame ns ds)
+some Meet frame ns ds h = some-line 120 _ (replyOf Meet frame ns ds)
+some Same frame ns ds h = some-line 97 _ (replyOf Same frame ns ds)
+some Help frame ns ds h = absurd (h refl)
+some Unreadable frame ns ds h = some-refusal 14
+
+pub other-text : (frame : List Float) (bs : List ℕ) → (questionOf bs .asked ≡ Help → ⊥) → 0 < length (askText frame bs)
+unfolding askText
+other-text frame bs h = let q = questionOf bs in some (q .asked) frame (q .numbers) (q .doubles) h
 
 -- Two outcomes of answering a line that meet one promise coincide: the length, and the whole buffer.
 pub one-reply : (frame : List Float) (bs : List ℕ) {old a b : List ℕ} {m n : ℕ} → Wrote 1100 (askText frame bs) old a m → Wrote 1100 (askText frame bs) old b n → (m ≡ n) × (a ≡ b)

@@ -1,6 +1,4 @@
 -- The line that answers a line, as bytes: the values with single spaces between, or the refusal's number and name, and a newline.
-use mathlib.Core.Path.{_≡_}
-use mathlib.Core.Bool.{Bool, true}
 use mathlib.Core.List.{List, [], _∷_, _++_}
 use Prim.Native.Nat.{ℕ, zero, suc, _+_, _-_, _*_, min}
 use lib.Dec.{eqb}
@@ -11,7 +9,6 @@ use Rattle.reply.specs.Text.{text}
 use Rattle.reply.specs.Replies.{Reply}
 use Rattle.text.specs.Numbers.{decimal, hex, field, space, newline}
 use Rattle.ask_read.specs.declared.Asked.{Asked}
-use Rattle.ask_read.specs.declared.Asked.the-variants.{Help}
 use Rattle.ask_read.specs.declared.Question.{Question}
 use Rattle.ask_read.specs.Questions.{questionOf}
 use Rattle.ask_answer.specs.Answers.{kindsOf, replyTo}
@@ -95,8 +92,3 @@ questionText frame q = answerText (q .asked) (replyTo frame q)
 
 unfoldable pub askText : List Float → List ℕ → List ℕ
 askText frame bs = questionText frame (questionOf bs)
-
--- whether a line asks for the help
-pub record AsksHelp (bs : List ℕ) (r : Bool) : Type 0 where
-  pub asks : r ≡ true → questionOf bs .asked ≡ Help
-  pub told : questionOf bs .asked ≡ Help → r ≡ true

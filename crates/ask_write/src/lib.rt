@@ -7,7 +7,7 @@ ghost use Rattle.reply.specs.Choice.{pick};
 ghost use Rattle.text.specs.Writing.{PutAt, Wrote};
 ghost use Rattle.lent.specs.Lent.{bitsOf};
 ghost use Rattle.ask_answer.specs.Answers.{kindsOf, valuesIn, saidAnswer};
-ghost use Rattle.ask_write.specs.Texts.{overageText, valueText, fieldText, textTo, valuesText, nameOf, refusedText, answerText, askText, AsksHelp};
+ghost use Rattle.ask_write.specs.Texts.{overageText, valueText, fieldText, textTo, valuesText, nameOf, refusedText, answerText, askText};
 ghost use Rattle.ask_read.specs.declared.Asked.the-variants.{Hexagon};
 use ask_answer::Answer;
 use ask_read::Asked;
@@ -217,7 +217,7 @@ pub fn write_answer(asked: Asked, a: Answer, buf: &mut [u8]) -> usize
     write_refused(buf, number)
 }
 
-// Writes the answer's line to a question's line, on a frame, at the buffer's start, and answers its length. A buffer with fewer than LONGEST bytes is left unchanged and 0 answered.
+// Writes the answer's line to a question's line, on a frame, at the buffer's start, and answers its length. A buffer with fewer than LONGEST bytes is left unchanged and 0 answered. The help alone has no line: 0 where there is room.
 pub fn reply_to(frame: &[f64], line: &[u8], buf: &mut [u8]) -> usize
     ensures { λ r. ⌜ Wrote 1100 (askText (now (frame .entry)) (now (line .entry))) (now (buf .entry)) (now (buf .exit)) r ⌝ }
 {
@@ -225,16 +225,4 @@ pub fn reply_to(frame: &[f64], line: &[u8], buf: &mut [u8]) -> usize
     let asked = q.asked;
     let answer = ask_answer::answer_to(frame, q);
     write_answer(asked, answer, buf)
-}
-
-// Whether a line asks for the help, which has no answer's line: the program prints it.
-pub fn is_help(line: &[u8]) -> bool
-    ensures { λ r. ⌜ AsksHelp (now (line .entry)) r ⌝ }
-{
-    let q = ask_read::read_question(line);
-    let asked = q.asked;
-    match asked {
-        Asked::Help => true,
-        _ => false,
-    }
 }

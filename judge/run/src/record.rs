@@ -69,16 +69,11 @@ fn outlined(values: [u64; 49]) -> String {
 
 // What questions look like.
 
-/// The decimal of a double, if one of at most 15 digits is exactly it. Minus zero is left to its bits.
+/// The shortest decimal that reads back as a double, if it has at most 15 digits. Minus zero is left to its bits.
 fn decimal(x: f64) -> Option<String> {
     let word = format!("{x}");
-    let digits: String = word.chars().filter(char::is_ascii_digit).collect();
-    let after = word.split_once('.').map_or(0, |(_, after)| after.len());
-    if !x.is_finite() || digits.len() > 15 || x.to_bits() == (-0f64).to_bits() {
-        return None;
-    }
-    // n / 10^k is a fraction of a power of two where 5^k divides n
-    (digits.parse::<u64>().unwrap() % 5u64.pow(after as u32) == 0).then_some(word)
+    let digits = word.chars().filter(char::is_ascii_digit).count();
+    (x.is_finite() && digits <= 15 && x.to_bits() != (-0f64).to_bits()).then_some(word)
 }
 
 /// A double's bits, or now and then its decimal.
@@ -358,9 +353,9 @@ fn unreadable() -> Vec<Entry> {
     assert_eq!(long.len(), 600);
     let lines = [
         "", " ", "ask 0 0", "round", "round 0", "round 0 0 0", "direction 0 1 2", "round  0 0", "round 0  0", " round 0 0", "round 0 0 ",
-        "direction 00 1", "centre 01 0 0", "round 00.5 0", "round 0.1 0", "round 0.500000000000000 0", "round .5 0", "round 5. 0",
+        "direction 00 1", "centre 01 0 0", "round 00.5 0", "round 0.1e0 0", "round 0.500000000000000 0", "round .5 0", "round 5. 0",
         "round +1 0", "round 1e3 0", "round 3ff 0", "round --1 0", "round - 0", "centre -1 0 0", "direction -1 0", "direction 4294967296 0",
-        "direction 99999999999999999999 0", "centre 1.0 0 0", "round 0 0\r", "\r", "direction 0\t1", "Round 0 0", "DIRECTION 0 1",
+        "direction 99999999999999999999 0", "centre 1.0 0 0", "round 0\r 0", "round 0 0\r\r", "\r", "direction 0\t1", "Round 0 0", "DIRECTION 0 1",
         "cross 0 0 P 1 1 0 no", "cross 0 0 p 1 1 0 maybe", "cross 0 0 p 1 1 0", "turn 0 1 1 0 left", "step 0 0 p 1 1 0", "same 0 1 1 0 0 1 1",
         "meet 0 0 1 1 0 1 1", "nearest 1 0", "place 0 1 0", "place 0.5 1 0 0", "corners 0 0 1 0", "hexagon 0 0 0 0 0 0", "roundx 0 0", &long,
     ];
@@ -379,7 +374,34 @@ fn just_readable() -> Vec<Entry> {
         said("round 999999999999999 0", ask_round(&mut c, 999999999999999., 0.)),
         said("round 4000000000000000 0000000000000000", ask_round(&mut c, 2., 0.)),
         said("round 7ff8000000000000 0", ask_round(&mut c, f64::NAN, 0.)),
+        said("round 0.1 -0.1", ask_round(&mut c, 0.1, -0.1)),
+        said("round 0 0\r", ask_round(&mut c, 0., 0.)),
     ]
+}
+
+/// A decimal without a leading zero: up to 15 digits in all, the point anywhere or nowhere.
+fn any_decimal(c: &mut Chance) -> String {
+    let sign = if c.below(2) == 0 { "" } else { "-" };
+    let digits = 1 + c.below(15) as u32;
+    let number = c.bits() % 10u64.pow(digits);
+    let after = (c.below(u64::from(digits)) as usize).min(14);
+    let word = format!("{number:0width$}", width = after + 1);
+    let (whole, rest) = word.split_at(word.len() - after);
+    if after == 0 { format!("{sign}{whole}") } else { format!("{sign}{whole}.{rest}") }
+}
+
+/// Decimals of every length. The meeting of an upright line with a level one has the upright line's x, so that its bits show
+/// how the decimal was rounded; Rust's own reading, which is correctly rounded, says how it should be.
+fn decimals() -> Vec<Entry> {
+    let mut c = Chance(SEED - 2);
+    (0..MANY)
+        .map(|_| {
+            let word = any_decimal(&mut c);
+            let x: f64 = word.parse().expect("a decimal");
+            let entry = ask_meet(&mut c, [x, -1., x, 1., -8., 0., 8., 0.]);
+            Entry { line: format!("meet {word} -1 {word} 1 -8 0 8 0"), ..entry }
+        })
+        .collect()
 }
 
 fn lines(entries: &[Entry], part: impl Fn(&Entry) -> &str) -> String {
@@ -391,7 +413,8 @@ pub fn run(folder: &Path) {
     let mut all = checked_places();
     all.extend(unreadable());
     all.extend(just_readable());
-    println!("{} checked places and lines of every spelling", all.len());
+    all.extend(decimals());
+    println!("{} checked places, lines of every spelling and decimals", all.len());
     for (kind, seed) in KINDS.into_iter().zip(SEED..) {
         all.extend(sample(kind, seed));
     }
