@@ -13,6 +13,18 @@ struct Kept {
     pub good: bool,
 }
 
+impl Kept {
+    fn new(line: usize, answers: usize, good: bool) -> Kept
+        ensures { λ r. ⌜ (r .line ≡ line) × (r .answers ≡ answers) × (r .good ≡ good) ⌝ }
+    {
+        Kept {
+            line,
+            answers,
+            good,
+        }
+    }
+}
+
 fn say(text: &[u8]) -> bool {
     io::write_all(STDOUT_FILENO, text)
 }
@@ -88,11 +100,7 @@ fn failed(complaint: &[u8]) -> Kept
     ensures { λ r. ⌜ (r .line ≡ 0) × (r .answers ≡ 0) ⌝ }
 {
     io::write_all(STDERR_FILENO, complaint);
-    Kept {
-        line: 0,
-        answers: 0,
-        good: false,
-    }
+    Kept::new(0, 0, false)
 }
 
 // Writes the answers that are kept.
@@ -102,20 +110,12 @@ fn hand_over(answers: &[u8], k: Kept) -> Kept
 {
     let n = k.answers;
     if !k.good {
-        return Kept {
-            line: 0,
-            answers: 0,
-            good: false,
-        };
+        return Kept::new(0, 0, false);
     }
     if !say(&answers[..n]) {
         return failed(b"ask: the answers could not be written\n");
     }
-    Kept {
-        line: k.line,
-        answers: 0,
-        good: true,
-    }
+    Kept::new(k.line, 0, true)
 }
 
 // What is kept where the buffer has room for any answer: what may leave too little is written first.
@@ -134,15 +134,11 @@ fn help(answers: &[u8], k: Kept) -> Kept
     requires { ⌜ k .answers ≤ length (now answers) ⌝ }
     ensures { λ r. ⌜ (r .line ≡ 0) × (r .answers ≡ 0) ⌝ }
 {
-    let kept = hand_over(answers, k);
-    if kept.good & !(say_plane_help() & say_place_help() & say_cell_help() & say_why()) {
+    let after = hand_over(answers, k);
+    if after.good & !(say_plane_help() & say_place_help() & say_cell_help() & say_why()) {
         return failed(b"ask: the help could not be written\n");
     }
-    Kept {
-        line: 0,
-        answers: 0,
-        good: kept.good,
-    }
+    Kept::new(0, 0, after.good)
 }
 
 // Answers a line into the buffer.
@@ -156,11 +152,7 @@ fn answer(frame: &[f64], line: &[u8], answers: &mut [u8], k: Kept) -> Kept
     if n == 0 {
         return help(answers, kept);
     }
-    Kept {
-        line: 0,
-        answers: at + n,
-        good: kept.good,
-    }
+    Kept::new(0, at + n, kept.good)
 }
 
 // Keeps bytes of a line, as many as the buffer holds: a line that fills it is longer than any good one.
@@ -175,11 +167,7 @@ fn keep(line: &mut [u8], k: Kept, bytes: &[u8]) -> Kept
         n += 1;
         i += 1;
     }
-    Kept {
-        line: n,
-        answers: k.answers,
-        good: k.good,
-    }
+    Kept::new(n, k.answers, k.good)
 }
 
 // Takes the last bytes of a line, up to its newline, of which a carriage return is a part.
@@ -219,11 +207,7 @@ fn take_bytes(frame: &[f64], line: &mut [u8], bytes: &[u8], answers: &mut [u8], 
 fn take_all(frame: &[f64], line: &mut [u8], bytes: &mut [u8], answers: &mut [u8]) -> Kept
     ensures { λ r. ⌜ (r .line ≤ length (now (line .entry))) × (r .answers ≡ 0) ⌝ }
 {
-    let mut kept = Kept {
-        line: 0,
-        answers: 0,
-        good: true,
-    };
+    let mut kept = Kept::new(0, 0, true);
     let mut turns = u64::MAX;
     while turns > 0 {
         let got = libc::read(STDIN_FILENO, bytes);

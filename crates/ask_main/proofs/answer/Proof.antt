@@ -1,5 +1,4 @@
 -- `answer` meets its contract: the answer lies within what is left of the buffer. Assumes nothing.
-use mathlib.Core.Path.{refl}
 use Prim.Native.Nat.{_+_, _≤_}
 use native.Mathlib.Omega.{arith}
 use lib.ListN.{length, length-drop}
@@ -16,14 +15,14 @@ inside c =
     let d = length-drop (m .result .answers) (c .before .before .before .before .before .before .before .before .before .before .args .answers .now) in
     omega (arith, r .kept, m .ensures)
 
-add-t11 : tie.Need-add-t11
-add-t11 c = record { fits = omega (arith, inside c, c .before .before .before .before .before .before .before .before .before .before .good .1 .1 .0 .0) }
+add-new : tie.Need-add-new
+add-new c = record { fits = omega (arith, inside c, c .before .before .before .before .before .before .before .before .before .before .good .1 .1 .0 .0) }
 
 returns-2 : tie.Need-returns-2
-returns-2 c = (refl, inside c)
+returns-2 c = (c .new .ensures .0, omega (arith, inside (c .before), c .new .ensures .1))
 
 pub answer-spec : {M : Type 1} → statement M
 answer-spec =
     tie.close
     (tie.spec (λ c κs. search needs) (λ c. search needs) (λ c. search needs) (λ c. search needs) (λ c κs. search needs) (λ c κs.
-    search needs) (λ c. search needs) (λ c. search needs) add-t11 (λ c. search needs) returns-2)
+    search needs) (λ c. search needs) (λ c. search needs) add-new (λ c κs. search needs) (λ c. search needs) returns-2)

@@ -13,5 +13,5 @@ slice-aggregate-say c =
 pub hand-over-spec : {M : Type 1} → statement M
 hand-over-spec =
     tie.close
-    (tie.spec (λ c. search needs) slice-aggregate-say (λ c κs. search needs) (λ c. search needs) (λ c κs. search needs) (λ c.
-    search needs) (λ c. search needs))
+    (tie.spec (λ c κs. search needs) (λ c. search needs) slice-aggregate-say (λ c κs. search needs) (λ c. search needs) (λ c κs.
+    search needs) (λ c. search needs) (λ c κs. search needs) (λ c. search needs))

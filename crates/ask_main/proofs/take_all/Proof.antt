@@ -13,6 +13,9 @@ Inv-loop frame line₀ bytes₀ answers₀ kept₀ turns₀ t10 line bytes answe
 abbrev μ-loop : tie.MeasureT-loop
 μ-loop frame line₀ bytes₀ answers₀ kept₀ turns₀ t10 line bytes answers kept turns = turns
 
+new-requires : tie.Need-new-requires Inv-loop μ-loop
+new-requires c κs = tt
+
 loop-holds : tie.Need-loop-holds Inv-loop μ-loop
 loop-holds c = search needs
 
@@ -100,7 +103,7 @@ returns-4 c = search needs
 pub take-all-spec : {M : Type 1} → statement M
 take-all-spec =
     tie.close
-    (tie.spec Inv-loop μ-loop loop-holds read-requires slice-aggregate-failed failed-requires same-length same-length-2
+    (tie.spec Inv-loop μ-loop new-requires loop-holds read-requires slice-aggregate-failed failed-requires same-length same-length-2
     same-length-3 returns count-requires slice-reshare-prefix-take-bytes slice-aggregate-take-bytes take-bytes-requires
     hand-over-requires sub-turns loop-less loop-again same-length-4 same-length-5 same-length-6 returns-2 same-length-7
     same-length-8 same-length-9 returns-3 same-length-10 same-length-11 same-length-12 returns-4)
