@@ -80,7 +80,7 @@ pub fn begin(input: &[u8]) -> State
 fn is_beyond(p: Place, level: GridLevel, substrate: bool) -> bool
     ensures { λ r. ⌜ (badGrid (level .0) ≡ false → r ≡ ltb (limitOf (level .0) substrate) (sumAt p)) ⌝ }
 {
-    let sum = p.i as u64 + p.j as u64 + p.k as u64;
+    let sum = p.sum();
     let gridded = level.grid(substrate);
     match gridded {
         Gridded::Done(grid) => (grid.limit as u64) < sum,
