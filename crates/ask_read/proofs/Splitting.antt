@@ -70,6 +70,11 @@ pub some-word : (line : List ℕ) (at : ℕ) → at ≤ length line → wordsFro
 unfolding wordsFrom
 some-word line at h = rw (le-leb at (length line) h) (split (drop at line))
 
+-- from the first byte on all words stand
+pub all-words : (line : List ℕ) → wordsFrom line 0 ≡ words line
+unfolding wordsFrom
+all-words line = rw (le-leb 0 (length line) (omega arith)) refl
+
 -- an empty line has no carriage return
 pub bare-empty : (line : List ℕ) → length line ≤ 0 → take (length line) line ≡ bare line
 unfolding bare

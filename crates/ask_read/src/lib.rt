@@ -5,7 +5,7 @@ ghost use lib.ListN.{length, getD, take};
 ghost use lib.Dec.{eqb};
 ghost use lib.Ieee.{binary64, ofBits};
 ghost use Rattle.ask_read.specs.Words.{digitOf, withDigit, spelt, plain, bad, numberFrom, numberField, decimalFrom, unsignedField, negated, decimalField, bitsOf, doubleField, same, flagField};
-ghost use Rattle.ask_read.specs.Questions.{rows, rowOf, rowAt, fieldOf, blank, unreadable, firstField, others, filled, filledBy, questionOf, wordsFrom, bare};
+ghost use Rattle.ask_read.specs.Questions.{rows, rowOf, rowAt, fieldOf, blank, unreadable, firstField, others, filled, filledBy, questionOf, settleOf, wordsFrom, bare};
 
 // What a word says: a number or a flag, a double, and whether it says anything; zeros elsewhere.
 pub struct Field {
@@ -450,6 +450,13 @@ pub fn read_question(line: &[u8]) -> Question
     let end = bytes::scan::find(line, 0, len, b' ');
     let row = row_of(&line[..end]);
     fill_row(row, line, end + 1)
+}
+
+// A line of the fields of `settle` alone, without its name.
+pub fn read_settle(line: &[u8]) -> Question
+    ensures { λ r. ⌜ r ≡ settleOf (now (line .entry)) ⌝ }
+{
+    fill_row(6, line, 0)
 }
 
 // How many bytes a line has without the carriage return that belongs to its newline.
