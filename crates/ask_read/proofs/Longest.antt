@@ -14,7 +14,7 @@ use Rattle.ask_read.specs.Words.{digitOf, digits, none, withDigit, spelt
 use Rattle.ask_read.proofs.Spelling.{within}
 
 -- only the byte 48 counts for 0
-some-digit : (b : ℕ) → (b ≡ 48 → ⊥) → 1 ≤ digitOf b
+pub some-digit : (b : ℕ) → (b ≡ 48 → ⊥) → 1 ≤ digitOf b
 unfolding digitOf
 some-digit b h = go (ltb 47 b && ltb b 58) (ltb 96 b && ltb b 103) (ltb 64 b && ltb b 71) refl refl refl
   where
@@ -38,7 +38,7 @@ unfolding spelt
 bad-stays base d [] e = e
 bad-stays base d (b ∷ s) e = bad-stays base (withDigit base d b) s (still-bad base d b e)
 
-good-before : (base : ℕ) (d : Digits) (s : List ℕ) → spelt base d s .good ≡ true → d .good ≡ true
+pub good-before : (base : ℕ) (d : Digits) (s : List ℕ) → spelt base d s .good ≡ true → d .good ≡ true
 good-before base d s e = go (d .good) refl
   where
     go : (g : Bool) → d .good ≡ g → g ≡ true
@@ -64,7 +64,7 @@ grown d (b ∷ s) e =
     let same : d .value * 10 ^ suc (length s) ≡ d .value * 10 * p = ap (λ (x : ℕ). d .value * x) (pow-suc 10 (length s) ∙ mul-comm p 10) ∙ sym (mul-assoc (d .value) 10 p) in
     le-trans (le-of-eq same) (le-trans (mul-le-mul-right p more) (grown r s e))
 
-first : (b c : ℕ) (s : List ℕ) → plain (b ∷ c ∷ s) ≡ true → b ≡ 48 → ⊥
+pub first : (b c : ℕ) (s : List ℕ) → plain (b ∷ c ∷ s) ≡ true → b ≡ 48 → ⊥
 unfolding plain
 first b c s e = eqb-false b 48 (not-true (eqb b 48) (rw (le-ltb (suc (suc (length s))) 2 (omega arith)) at e))
 

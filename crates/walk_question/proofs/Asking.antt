@@ -1,82 +1,235 @@
 -- A line is read as a question exactly when it is that question's text, and a line has one reading. Assumes nothing.
 use mathlib.Core.Path.{_≡_, refl, sym, ap, subst, _∙_}
-use mathlib.Core.Bool.{Bool, true, false, _&&_}
-use mathlib.Core.List.{List, _∷_, _++_, append-assoc}
+use mathlib.Core.Bool.{Bool, true, false, false≢true, _&&_}
+use mathlib.Core.List.{List, [], _∷_, _++_, append-nil}
 use mathlib.Core.Logic.{_↔_}
-use Prim.Native.Nat.{ℕ}
+use Prim.Native.Nat.{ℕ, _^_, _≤_, _<_}
 use native.Mathlib.Omega.{arith}
+use lib.Dec.{ltb, eqb, lit≤}
+use lib.ListN.{length, getD, drop}
+use borrow.Author.Tests.{lt-ltb, ltb-true}
 use Rattle.reply.specs.Choice.{pick}
+use Rattle.reply.specs.Text.{text}
+use Rattle.reply.proofs.Entries.{both}
 use Rattle.text.specs.Numbers.{decimal, field}
+use Rattle.text.proofs.Decimals.{short}
+use Rattle.ask_read.specs.declared.Field.{Field}
+use Rattle.ask_read.specs.declared.Asked.the-variants.{Settle, Unreadable}
+use Rattle.ask_read.specs.declared.Question.{Question as Fields}
+use Rattle.ask_read.specs.Words.{numeric, numberField, bad, same, flagField}
+use Rattle.ask_read.specs.Questions.{words, rowAt, fieldOf, filled, readable, filledBy, blank, settleOf}
+use Rattle.ask_read.proofs.Numerals.{number-read, number-is, digits-hold}
+use Rattle.ask_read.proofs.Joining.{spaced, joined, one-byte, decimal-whole, before-space}
+use Rattle.ask_read.proofs.Joining.{at-end as alone}
+use Rattle.ask_read.proofs.Filling.{asked-filled, first, no-more}
+use Rattle.ask_read.proofs.Rows.{same-is}
 use Rattle.walk_question.specs.declared.Question.{Question}
 use Rattle.walk_question.specs.declared.Reading.{Reading}
-use Rattle.walk_question.specs.Reading.{letter, fieldsOf, Asks, Read}
-use Rattle.walk_question.specs.Cursor.{faceIn, levelIn, kindIn, iIn, jIn, kIn, questionOf, ofFields, readingOf}
-use Rattle.walk_question.proofs.Fields.{both}
-use Rattle.walk_question.proofs.FieldTexts.{spaced-text, spaced-read, kind-text, kind-read, last-text, last-read}
+use Rattle.walk_question.specs.Reading.{letter, fieldsOf, Short, Asks, Read}
+use Rattle.walk_question.specs.Fields.{lineOf, questionOf, isShort, ofNumbers, readingOf}
+use Rattle.walk_question.proofs.Ending.{cut, decimal-closed, after, cut-off}
 
--- the text of a question, field after field
-spread : (q : Question) (after : List ℕ) → fieldsOf q ++ after ≡ decimal (q .place .face) ++ (32 ∷ (decimal (q .level .0) ++ (32 ∷ letter (q .substrate) ∷ 32 ∷ (decimal (q .place .i) ++ (32 ∷ (decimal (q .place .j) ++ (32 ∷ (decimal (q .place .k) ++ after))))))))
+-- ---- p or s
+
+abbrev kind : List ℕ → Field
+kind w = flagField (text "p") (text "s") w
+
+kind-read : (s : Bool) → kind (letter s ∷ []) ≡ numeric (pick s 1 0)
+unfolding flagField same
+kind-read true = refl
+kind-read false = refl
+
+kind-value : (s : Bool) → eqb (pick s 1 0) 1 ≡ s
+kind-value true = refl
+kind-value false = refl
+
+kind-is : (w : List ℕ) → kind w .good ≡ true → w ≡ letter (eqb (kind w .number) 1) ∷ []
+unfolding flagField
+kind-is w e = go (same w (text "p")) (same w (text "s")) refl refl e
+  where
+    go : (p s : Bool) → same w (text "p") ≡ p → same w (text "s") ≡ s → pick p (numeric 0) (pick s (numeric 1) bad) .good ≡ true → w ≡ letter (eqb (pick p (numeric 0) (pick s (numeric 1) bad) .number) 1) ∷ []
+    go true s e f g = same-is w (text "p") e
+    go false true e f g = same-is w (text "s") f
+    go false false e f g = absurd (false≢true g)
+
+-- ---- the words of a question
+
+abbrev wordsOf : Question → List (List ℕ)
+wordsOf q =
+    decimal (q .place .face) ∷
+    decimal (q .level .0) ∷
+    (letter (q .substrate) ∷ []) ∷
+    decimal (q .place .i) ∷
+    decimal (q .place .j) ∷
+    decimal (q .place .k) ∷
+    []
+
+words-joined : (q : Question) → spaced (wordsOf q) ≡ 32 ∷ fieldsOf q
 unfolding fieldsOf field
-spread q after = simp append-assoc
+words-joined q = rw (append-nil (decimal (q .place .k))) refl
+
+not-space : (s : Bool) → letter s ≡ 32 → ⊥
+not-space true e = omega arith
+not-space false e = omega arith
+
+words-split : (q : Question) → words (fieldsOf q) ≡ wordsOf q
+unfolding fieldsOf field
+words-split q =
+    let s = letter (q .substrate) in
+    before-space (decimal-whole (q .place .face)) _ ∙
+    ap (λ (x : List (List ℕ)). decimal (q .place .face) ∷ x)
+    (before-space (decimal-whole (q .level .0)) _ ∙
+    ap (λ (x : List (List ℕ)). decimal (q .level .0) ∷ x)
+    (before-space (one-byte s (not-space (q .substrate))) _ ∙
+    ap (λ (x : List (List ℕ)). (s ∷ []) ∷ x)
+    (before-space (decimal-whole (q .place .i)) _ ∙
+    ap (λ (x : List (List ℕ)). decimal (q .place .i) ∷ x)
+    (before-space (decimal-whole (q .place .j)) _ ∙ ap (λ (x : List (List ℕ)). decimal (q .place .j) ∷ x) (alone (decimal-whole (q .place .k)))))))
+
+line-is : (q : Question) (bs : List ℕ) → Asks q bs → lineOf bs ≡ fieldsOf q
+unfolding fieldsOf field
+line-is q bs a =
+    let last = after (32 ∷ []) (decimal-closed (q .place .k)) in
+    let closed = after (decimal (q .place .face)) (after (32 ∷ decimal (q .level .0)) (after (32 ∷ letter (q .substrate) ∷ []) (after (32 ∷ decimal (q .place .i)) (after (32 ∷ decimal (q .place .j)) last)))) in
+    ap lineOf (a .text) ∙ cut-off closed (a .ends)
+
+-- ---- six words
+
+abbrev numbersOf : List ℕ → List ℕ → List ℕ → List ℕ → List ℕ → List ℕ → List ℕ
+numbersOf f l s i j k =
+    numberField f .number ∷
+    numberField l .number ∷
+    kind s .number ∷
+    numberField i .number ∷
+    numberField j .number ∷
+    numberField k .number ∷
+    0 ∷
+    0 ∷
+    []
+
+-- words that are the fields of `settle`, and the numbers that they give
+record Six (ws : List (List ℕ)) : Type 0 where
+  pub f : List ℕ
+  pub l : List ℕ
+  pub s : List ℕ
+  pub i : List ℕ
+  pub j : List ℕ
+  pub k : List ℕ
+  pub is : ws ≡ f ∷ l ∷ s ∷ i ∷ j ∷ k ∷ []
+  pub face : numberField f .good ≡ true
+  pub level : numberField l .good ≡ true
+  pub sort : kind s .good ≡ true
+  pub at-i : numberField i .good ≡ true
+  pub at-j : numberField j .good ≡ true
+  pub at-k : numberField k .good ≡ true
+
+six : (ws : List (List ℕ)) → readable (rowAt 6 .kinds) ws ≡ true → Six ws
+unfolding rowAt fieldOf
+six ws e =
+    let f = first 110 (text "npnnn") ws e in
+    let l = first 110 (text "pnnn") (f .more) (f .on) in
+    let s = first 112 (text "nnn") (l .more) (l .on) in
+    let i = first 110 (text "nn") (s .more) (s .on) in
+    let j = first 110 (text "n") (i .more) (i .on) in
+    let k = first 110 [] (j .more) (j .on) in
+    let none = no-more (k .more) (k .on) in
+    record {
+      f = f .word;
+      l = l .word;
+      s = s .word;
+      i = i .word;
+      j = j .word;
+      k = k .word;
+      is = rw (← none, ← (k .is), ← (j .is), ← (i .is), ← (s .is), ← (l .is)) (f .is);
+      face = f .good;
+      level = l .good;
+      sort = s .good;
+      at-i = i .good;
+      at-j = j .good;
+      at-k = k .good;
+    }
+
+six-numbers : (ws : List (List ℕ)) (x : Six ws) → filledBy (rowAt 6) ws .numbers ≡ numbersOf (x .f) (x .l) (x .s) (x .i) (x .j) (x .k)
+unfolding filled fieldOf rowAt
+six-numbers ws x = rw (x .is, x .face, x .level, x .sort, x .at-i, x .at-j, x .at-k) refl
+
+-- a number of few digits, as a field
+record Few (n top : ℕ) : Type 0 where
+  pub field : numberField (decimal n) ≡ numeric n
+  pub below : ltb n top ≡ true
+
+few : (k n top : ℕ) → 10 ^ k ≡ top → top ≤ 10000 → length (decimal n) ≤ k → Few n top
+few k n top e t h =
+    let l = digits-hold k n h in
+    record { field = number-read n (omega arith); below = lt-ltb n top (omega arith) }
+
+-- the words of a question with few digits are read, and give its numbers
+words-read : (q : Question) → Short q → (readable (rowAt 6 .kinds) (wordsOf q) ≡ true) × (ofNumbers (filledBy (rowAt 6) (wordsOf q) .numbers) ≡ Reading.Line q)
+unfolding readable filled fieldOf rowAt ofNumbers
+words-read q h =
+    let f = few 2 (q .place .face) 100 refl (lit≤ tt) (h .face) in
+    let l = few 2 (q .level .0) 100 refl (lit≤ tt) (h .level) in
+    let i = few 4 (q .place .i) 10000 refl (lit≤ tt) (h .i) in
+    let j = few 4 (q .place .j) 10000 refl (lit≤ tt) (h .j) in
+    let k = few 4 (q .place .k) 10000 refl (lit≤ tt) (h .k) in
+    let s = kind-read (q .substrate) in (
+      rw (f .field, l .field, s, i .field, j .field, k .field) refl,
+      rw (f .field, l .field, s, i .field, j .field, k .field, f .below, l .below, i .below, j .below, k .below, kind-value (q .substrate)) refl,
+    )
 
 module _ (bs : List ℕ) where
-  abbrev question : Question
-  question = questionOf (faceIn bs) (levelIn bs) (kindIn bs) (iIn bs) (jIn bs) (kIn bs)
+  abbrev ws : List (List ℕ)
+  ws = words (lineOf bs)
 
-  abbrev all-good : Bool
-  all-good = faceIn bs .good && levelIn bs .good && kindIn bs .good && iIn bs .good && jIn bs .good && kIn bs .good
+  abbrev numbers : List ℕ
+  numbers = settleOf (lineOf bs) .numbers
 
-  -- six good fields are the text of their question
-  asked : all-good ≡ true → Asks question bs
-  asked t =
-      let g5 = both _ (kIn bs .good) t in
-      let g4 = both _ (jIn bs .good) (g5 .0) in
-      let g3 = both _ (iIn bs .good) (g4 .0) in
-      let g2 = both _ (kindIn bs .good) (g3 .0) in
-      let g1 = both (faceIn bs .good) (levelIn bs .good) (g2 .0) in
-      let f = spaced-text 2 bs 0 (g1 .0) in
-      let l = spaced-text 2 bs (faceIn bs .next) (g1 .1) in
-      let s = kind-text bs (levelIn bs .next) (g2 .1) in
-      let i = spaced-text 4 bs (kindIn bs .next) (g3 .1) in
-      let j = spaced-text 4 bs (iIn bs .next) (g4 .1) in
-      let k = last-text 4 bs (jIn bs .next) (g5 .1) in
-      record {
-        short = record { face = f .short; level = l .short; i = i .short; j = j .short; k = k .short };
-        after = k .after;
-        text = f .text ∙ rw (l .text, s, i .text, j .text, k .text, spread) refl;
-        ends = k .ends;
-      }
-
-  -- a question's text is read as that question
-  found : (q : Question) → Asks q bs → (all-good ≡ true) × (question ≡ q)
-  found q a =
-      let f = spaced-read 2 bs 0 (q .place .face) _ (a .short .face) (a .text ∙ spread q (a .after)) in
-      let l = spaced-read 2 bs (faceIn bs .next) (q .level .0) _ (a .short .level) (f .on) in
-      let s = kind-read bs (levelIn bs .next) (q .substrate) _ (l .on) in
-      let i = spaced-read 4 bs (kindIn bs .next) (q .place .i) _ (a .short .i) (s .on) in
-      let j = spaced-read 4 bs (iIn bs .next) (q .place .j) _ (a .short .j) (i .on) in
-      let k = last-read 4 bs (jIn bs .next) (q .place .k) (a .short .k) (a .ends) (j .on) in (
-        simp (f .good, l .good, s .good, i .good, j .good, k .good),
-        λ n. record {
-          place = record { face = f .value n; i = i .value n; j = j .value n; k = k .value n };
-          level = record { 0 = l .value n };
-          substrate = s .value n;
-        },
-      )
+  -- good fields with few digits are the text of their question
+  asked : readable (rowAt 6 .kinds) ws ≡ true → isShort numbers ≡ true → Asks (questionOf numbers) bs
+  asked r t =
+      let x = six ws r in
+      let ns = numbersOf (x .f) (x .l) (x .s) (x .i) (x .j) (x .k) in
+      let is : numbers ≡ ns = six-numbers ws x in
+      let q = questionOf ns in
+      let u : isShort ns ≡ true = ap isShort (sym is) ∙ t in
+      let g4 = both (ltb (getD ns 0 0) 100 && ltb (getD ns 1 0) 100 && ltb (getD ns 3 0) 10000 && ltb (getD ns 4 0) 10000) (ltb (getD ns 5 0) 10000) u in
+      let g3 = both (ltb (getD ns 0 0) 100 && ltb (getD ns 1 0) 100 && ltb (getD ns 3 0) 10000) (ltb (getD ns 4 0) 10000) (g4 .0) in
+      let g2 = both (ltb (getD ns 0 0) 100 && ltb (getD ns 1 0) 100) (ltb (getD ns 3 0) 10000) (g3 .0) in
+      let g1 = both (ltb (getD ns 0 0) 100) (ltb (getD ns 1 0) 100) (g2 .0) in
+      let w : ws ≡ wordsOf q = x .is ∙ (λ d. number-is (x .f) (x .face) d ∷ number-is (x .l) (x .level) d ∷ kind-is (x .s) (x .sort) d ∷ number-is (x .i) (x .at-i) d ∷ number-is (x .j) (x .at-j) d ∷ number-is (x .k) (x .at-k) d ∷ []) in
+      let line : lineOf bs ≡ fieldsOf q = ap (drop 1) (joined (lineOf bs) ∙ (ap spaced w ∙ words-joined q)) in
+      let c = cut bs in
+      subst (λ (ns : List ℕ). Asks (questionOf ns) bs) (sym is)
+      (record {
+        short = record {
+          face = short 1 (getD ns 0 0) (ltb-true (getD ns 0 0) 100 (g1 .0));
+          level = short 1 (getD ns 1 0) (ltb-true (getD ns 1 0) 100 (g1 .1));
+          i = short 3 (getD ns 3 0) (ltb-true (getD ns 3 0) 10000 (g2 .1));
+          j = short 3 (getD ns 4 0) (ltb-true (getD ns 4 0) 10000 (g3 .1));
+          k = short 3 (getD ns 5 0) (ltb-true (getD ns 5 0) 10000 (g4 .1));
+        };
+        after = c .after;
+        text = c .text ∙ ap (λ (x : List ℕ). x ++ c .after) line;
+        ends = c .ends;
+      })
 
   to-text : (q : Question) → readingOf bs ≡ Reading.Line q → Asks q bs
-  unfolding readingOf ofFields
-  to-text q e = go all-good refl e
+  unfolding readingOf ofNumbers
+  to-text q e = go (readable (rowAt 6 .kinds) ws) (isShort numbers) refl refl e
     where
-      go : (b : Bool) → b ≡ all-good → pick b (Reading.Line question) Reading.BadLine ≡ Reading.Line q → Asks q bs
-      go true t e =
-          let is : question ≡ q = cc in
-          subst (λ (q : Question). Asks q bs) is (asked (sym t))
-      go false t e = let z : _≡_ {A = ℕ} 0 1 = cc in absurd (omega arith)
+      go : (t u : Bool) → t ≡ readable (rowAt 6 .kinds) ws → u ≡ isShort numbers → pick t (pick u (Reading.Line (questionOf numbers)) Reading.BadLine) Reading.BadLine ≡ Reading.Line q → Asks q bs
+      go true true t u e =
+          let is : questionOf numbers ≡ q = cc in
+          subst (λ (q : Question). Asks q bs) is (asked (sym t) (sym u))
+      go true false t u e = let z : _≡_ {A = ℕ} 0 1 = cc in absurd (omega arith)
+      go false u t v e = let z : _≡_ {A = ℕ} 0 1 = cc in absurd (omega arith)
 
   of-text : (q : Question) → Asks q bs → readingOf bs ≡ Reading.Line q
-  unfolding readingOf ofFields
-  of-text q a = let f = found q a in (λ n. pick (f .0 n) (Reading.Line question) Reading.BadLine) ∙ ap Reading.Line (f .1)
+  unfolding readingOf
+  of-text q a =
+      let w : ws ≡ wordsOf q = ap words (line-is q bs a) ∙ words-split q in
+      let r = words-read q (a .short) in
+      rw (w, r .0) (r .1)
 
   -- a line is read as q exactly when it is q's text
   pub reads : (q : Question) → (readingOf bs ≡ Reading.Line q) ↔ Asks q bs
@@ -97,7 +250,7 @@ module _ (bs : List ℕ) where
   pub one-question : (p q : Question) → Asks p bs → Asks q bs → p ≡ q
   one-question p q a b = let e = of-text p a in let f = of-text q b in cc
 
-  -- what the cursor reads is how the line is read
+  -- what the words say is how the line is read
   pub is-read : (r : Reading) → r ≡ readingOf bs → Read bs r
   is-read (Reading.Line q) e = to-text q (sym e)
   is-read Reading.BadLine e = malformed .0 (sym e)
@@ -109,3 +262,26 @@ module _ (bs : List ℕ) where
   -- two readings of one line coincide
   pub one-reading : (a b : Reading) → Read bs a → Read bs b → a ≡ b
   one-reading a b x y = as-read a x ∙ sym (as-read b y)
+
+-- ---- what the code finds
+
+module _ (bs : List ℕ) (q : Fields) (is : q ≡ settleOf (lineOf bs)) where
+  asked-is : q .asked ≡ pick (readable (rowAt 6 .kinds) (words (lineOf bs))) Settle Unreadable
+  unfolding rowAt
+  asked-is = ap (λ (x : Fields). x .asked) is ∙ asked-filled 0 (rowAt 6 .kinds) (words (lineOf bs)) (blank Settle)
+
+  pub settled : (r : Reading) → q .asked ≡ Settle → r ≡ ofNumbers (q .numbers) → Read bs r
+  unfolding readingOf
+  settled r h e = is-read bs r (go (readable (rowAt 6 .kinds) (words (lineOf bs))) (sym asked-is ∙ h))
+    where
+      go : (t : Bool) → pick t Settle Unreadable ≡ Settle → r ≡ pick t (ofNumbers (settleOf (lineOf bs) .numbers)) Reading.BadLine
+      go true f = e ∙ ap (λ (x : Fields). ofNumbers (x .numbers)) is
+      go false f = let z : _≡_ {A = ℕ} 0 1 = cc in absurd (omega arith)
+
+  pub unsettled : (q .asked ≡ Settle → ⊥) → Read bs Reading.BadLine
+  unfolding readingOf
+  unsettled h = is-read bs Reading.BadLine (go (readable (rowAt 6 .kinds) (words (lineOf bs))) asked-is)
+    where
+      go : (t : Bool) → q .asked ≡ pick t Settle Unreadable → Reading.BadLine ≡ pick t (ofNumbers (settleOf (lineOf bs) .numbers)) Reading.BadLine
+      go true f = absurd (h f)
+      go false f = refl

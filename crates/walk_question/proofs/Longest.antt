@@ -10,7 +10,7 @@ use Rattle.text.specs.Numbers.{field}
 use Rattle.walk_question.specs.declared.Question.{Question}
 use Rattle.walk_question.specs.declared.Reading.{Reading}
 use Rattle.walk_question.specs.Reading.{fieldsOf, Ends, at-end, at-newline, Asks}
-use Rattle.walk_question.specs.Cursor.{readingOf}
+use Rattle.walk_question.specs.Fields.{readingOf}
 use Rattle.walk_question.proofs.Asking.{malformed}
 
 one-byte : {after : List ℕ} → Ends after → length after ≤ 1

@@ -1,0 +1,166 @@
+-- A number as a field of a line is the decimal of its number: no sign, no leading zero, nothing else. Assumes nothing.
+use mathlib.Core.Path.{_≡_, refl, sym, ap, subst, _∙_}
+use mathlib.Core.Bool.{Bool, true, false, false≢true, not, _&&_}
+use mathlib.Core.List.{List, [], _∷_, _++_, append-assoc, append-nil}
+use Prim.Native.Nat.{ℕ, zero, suc, _+_, _-_, _*_, _/_, _%_, _^_, _≤_, _<_}
+use native.Mathlib.Decide.{decLt}
+use native.Mathlib.Nat.{not-suc-le-zero, one-le-pow}
+use native.Mathlib.Omega.{arith}
+use lib.Dec.{ltb, eqb, lit≤}
+use lib.ListN.{length, getD, length-append}
+use borrow.Author.Tests.{lt-ltb, le-ltb, ne-eqb, eq-eqb, ltb-true}
+use Rattle.reply.specs.Choice.{pick}
+use Rattle.reply.proofs.Entries.{both}
+use Rattle.text.specs.Numbers.{decimal, digit}
+use Rattle.text.proofs.Decimals.{small, large, longer, some-digit, short10}
+use Rattle.ask_read.specs.declared.Digits.{Digits}
+use Rattle.ask_read.specs.declared.Field.{Field}
+use Rattle.ask_read.specs.Words.{digitOf, digits, none, withDigit, spelt, plain, numeric, bad, numberFrom, numberField}
+use Rattle.ask_read.proofs.Spelling.{within, spelt-append}
+use Rattle.ask_read.proofs.Longest.{good-before, first, some-digit as counts}
+
+-- ---- one digit
+
+digit-of : (d : ℕ) → d < 10 → digitOf (digit d) ≡ d
+unfolding digitOf
+digit-of d h =
+    let e : 48 + d - 48 ≡ d = omega arith in
+    rw (lt-ltb 47 (48 + d) (omega arith), lt-ltb (48 + d) 58 (omega arith)) e
+
+digit-is : (b : ℕ) → digitOf b < 10 → b ≡ digit (digitOf b)
+unfolding digitOf
+digit-is b = go (ltb 47 b && ltb b 58) (ltb 96 b && ltb b 103) (ltb 64 b && ltb b 71) refl refl refl
+  where
+    go : (t u v : Bool) → (ltb 47 b && ltb b 58) ≡ t → (ltb 96 b && ltb b 103) ≡ u → (ltb 64 b && ltb b 71) ≡ v → pick t (b - 48) (pick u (b - 87) (pick v (b - 55) 16)) < 10 → b ≡ digit (pick t (b - 48) (pick u (b - 87) (pick v (b - 55) 16)))
+    go true u v e f g h = omega (arith, within 47 58 b e)
+    go false true v e f g h = absurd (omega (arith, within 96 103 b f))
+    go false false true e f g h = absurd (omega (arith, within 64 71 b g))
+    go false false false e f g h = absurd (omega arith)
+
+took : (v b : ℕ) → digitOf b < 10 → withDigit 10 (digits v true) b ≡ digits (10 * v + digitOf b) true
+unfolding withDigit
+took v b h = rw (lt-ltb (digitOf b) 10 h) refl
+
+-- a digit that leaves the number good
+took-good : (d : Digits) (b : ℕ) → withDigit 10 d b .good ≡ true → digitOf b < 10
+unfolding withDigit
+took-good d b e = go (ltb (digitOf b) 10) refl e
+  where
+    go : (t : Bool) → ltb (digitOf b) 10 ≡ t → pick t (digits (10 * d .value + digitOf b) (d .good)) (digits (d .value) false) .good ≡ true → digitOf b < 10
+    go true f g = ltb-true (digitOf b) 10 f
+    go false f g = absurd (false≢true g)
+
+-- ---- the decimal of a number is read as that number
+
+pub spelt-decimal : (t n : ℕ) → n < t → spelt 10 none (decimal n) ≡ digits n true
+unfolding spelt
+spelt-decimal zero n h = absurd (not-suc-le-zero h)
+spelt-decimal (suc t) n h =
+    elim (decLt n 10) [
+      | yes s ↦
+          let d = digit-of n s in
+          let e : 10 * 0 + digitOf (digit n) ≡ n = omega arith in
+          rw (small n s) (took 0 (digit n) (omega arith) ∙ ap (λ (x : ℕ). digits x true) e)
+      | no l ↦
+          let big : 10 ≤ n = omega arith in
+          let b = digit (n % 10) in
+          let d = digit-of (n % 10) (omega arith) in
+          let e : 10 * (n / 10) + digitOf b ≡ n = omega arith in
+          rw (large n big, spelt-append 10 none (decimal (n / 10)) (b ∷ []), spelt-decimal t (n / 10) (omega arith))
+          (took (n / 10) b (omega arith) ∙ ap (λ (x : ℕ). digits x true) e)
+    ]
+
+-- it does not begin with 0, but for 0 itself
+begins : (t n : ℕ) → n < t → 1 ≤ n → 49 ≤ getD (decimal n) 0 0
+begins zero n h g = absurd (not-suc-le-zero h)
+begins (suc t) n h g =
+    elim (decLt n 10) [
+      | yes s ↦ rw (small n s) (omega arith)
+      | no l ↦
+          rw (large n (omega arith), front (decimal (n / 10)) (digit (n % 10) ∷ []) (some-digit (n / 10)))
+          (begins t (n / 10) (omega arith) (omega arith))
+    ]
+  where
+    front : (x y : List ℕ) → 1 ≤ length x → getD (x ++ y) 0 0 ≡ getD x 0 0
+    front [] y h = absurd (not-suc-le-zero h)
+    front (b ∷ x) y h = refl
+
+decimal-plain : (n : ℕ) → plain (decimal n) ≡ true
+unfolding plain
+decimal-plain n =
+    elim (decLt n 10) [
+      | yes s ↦ rw (small n s) refl
+      | no l ↦
+          let b = begins (suc n) n (omega arith) (omega arith) in
+          rw (le-ltb (length (decimal n)) 2 (omega (arith, longer n (omega arith), some-digit (n / 10))), ne-eqb (getD (decimal n) 0 0) 48 (λ e. omega arith)) refl
+    ]
+
+pub number-read : (n : ℕ) → n < 4294967296 → numberField (decimal n) ≡ numeric n
+unfolding numberField numberFrom
+number-read n h =
+    rw (lt-ltb (length (decimal n)) 11 (omega (arith, short10 n h)), decimal-plain n, spelt-decimal (suc n) n (omega arith), lt-ltb n 4294967296 h) refl
+
+-- ---- and what is read as a number is its decimal
+
+-- one digit behind a number that is not 0
+one-more : (v d : ℕ) → 0 < v → d < 10 → decimal (10 * v + d) ≡ decimal v ++ digit d ∷ []
+one-more v d h g =
+    let tenth : (10 * v + d) / 10 ≡ v = omega arith in
+    let last : (10 * v + d) % 10 ≡ d = omega arith in
+    large (10 * v + d) (omega arith) ∙ (λ n. decimal (tenth n) ++ digit (last n) ∷ [])
+
+onward : (v : ℕ) (s : List ℕ) → 0 < v → spelt 10 (digits v true) s .good ≡ true → decimal v ++ s ≡ decimal (spelt 10 (digits v true) s .value)
+unfolding spelt
+onward v [] h e = append-nil (decimal v)
+onward v (b ∷ s) h e =
+    let g = took-good (digits v true) b (good-before 10 (withDigit 10 (digits v true) b) s e) in
+    let w = took v b g in
+    let one : decimal v ++ b ∷ [] ≡ decimal (10 * v + digitOf b) = ap (λ (x : ℕ). decimal v ++ x ∷ []) (digit-is b g) ∙ sym (one-more v (digitOf b) h g) in
+    let same = ap (λ (d : Digits). spelt 10 d s) w in
+    let rest = onward (10 * v + digitOf b) s (omega arith) (ap (λ (d : Digits). d .good) (sym same) ∙ e) in
+    sym (append-assoc (decimal v) (b ∷ []) s) ∙
+    (ap (λ (x : List ℕ). x ++ s) one ∙ (rest ∙ ap (λ (d : Digits). decimal (d .value)) (sym same)))
+
+spelt-is : (w : List ℕ) → plain w ≡ true → spelt 10 none w .good ≡ true → w ≡ decimal (spelt 10 none w .value)
+unfolding spelt plain
+spelt-is [] p e = absurd (false≢true p)
+spelt-is (b ∷ []) p e =
+    let g = took-good none b e in
+    let z : 10 * 0 + digitOf b ≡ digitOf b = omega arith in
+    rw (took 0 b g, z) (rw (small (digitOf b) g) (ap (λ (x : ℕ). x ∷ []) (digit-is b g)))
+spelt-is (b ∷ c ∷ s) p e =
+    let g = took-good none b (good-before 10 (withDigit 10 none b) (c ∷ s) e) in
+    let z : 10 * 0 + digitOf b ≡ digitOf b = omega arith in
+    let w : withDigit 10 none b ≡ digits (digitOf b) true = took 0 b g ∙ ap (λ (x : ℕ). digits x true) z in
+    let one : decimal (digitOf b) ≡ b ∷ [] = small (digitOf b) g ∙ ap (λ (x : ℕ). x ∷ []) (sym (digit-is b g)) in
+    let same = ap (λ (d : Digits). spelt 10 d (c ∷ s)) w in
+    let rest = onward (digitOf b) (c ∷ s) (counts b (first b c s p)) (ap (λ (d : Digits). d .good) (sym same) ∙ e) in
+    ap (λ (x : List ℕ). x ++ c ∷ s) (sym one) ∙ (rest ∙ ap (λ (d : Digits). decimal (d .value)) (sym same))
+
+pub number-is : (w : List ℕ) → numberField w .good ≡ true → w ≡ decimal (numberField w .number)
+unfolding numberField numberFrom
+number-is w e = go (ltb (length w) 11 && plain w) refl e
+  where
+    more : (d : Digits) (t : Bool) → (d .good && ltb (d .value) 4294967296) ≡ t → (d .good ≡ true → w ≡ decimal (d .value)) → pick t (numeric (d .value)) bad .good ≡ true → w ≡ decimal (pick t (numeric (d .value)) bad .number)
+    more d true t f e = f (both (d .good) (ltb (d .value) 4294967296) t .0)
+    more d false t f e = absurd (false≢true e)
+
+    go : (t : Bool) → (ltb (length w) 11 && plain w) ≡ t → pick t (numberFrom (spelt 10 none w)) bad .good ≡ true → w ≡ decimal (pick t (numberFrom (spelt 10 none w)) bad .number)
+    go true t e = more (spelt 10 none w) (spelt 10 none w .good && ltb (spelt 10 none w .value) 4294967296) refl (spelt-is w (both (ltb (length w) 11) (plain w) t .1)) e
+    go false t e = absurd (false≢true e)
+
+-- ---- how many digits
+
+-- k digits hold no number from 10^k on
+pub digits-hold : (k n : ℕ) → length (decimal n) ≤ k → n < 10 ^ k
+digits-hold zero n h = absurd (omega (arith, some-digit n))
+digits-hold (suc zero) n h =
+    elim (decLt n 10) [
+      | yes s ↦ omega arith
+      | no l ↦ absurd (omega (arith, longer n (omega arith), some-digit (n / 10)))
+    ]
+digits-hold (suc (suc k)) n h =
+    elim (decLt n 10) [
+      | yes s ↦ omega (arith, one-le-pow k 10 (lit≤ tt))
+      | no l ↦ let i = digits-hold (suc k) (n / 10) (omega (arith, longer n (omega arith))) in omega arith
+    ]

@@ -1,0 +1,76 @@
+-- The newline at the end of a line: one is dropped, and a line that ends otherwise stays. Assumes nothing.
+use mathlib.Core.Path.{_≡_, refl, sym, ap, _∙_}
+use mathlib.Core.Bool.{Bool, true, false}
+use mathlib.Core.List.{List, [], _∷_, _++_, append-assoc, append-nil}
+use Prim.Native.Nat.{ℕ, suc, _-_, _/_, _%_, _≤_}
+use native.Mathlib.Decide.{decLt}
+use native.Mathlib.Omega.{arith}
+use lib.Dec.{eqb}
+use lib.ListN.{length, getD, take, drop, length-append, drop-of-length-le}
+use lib.Seq.{split-at, take-append-seam, getD-append-seam}
+use borrow.Author.Tests.{eqb-true, ne-eqb}
+use Rattle.reply.specs.Choice.{pick}
+use Rattle.text.specs.Numbers.{decimal, digit}
+use Rattle.text.proofs.Decimals.{small, large}
+use Rattle.walk_question.specs.Reading.{Ends, at-end, at-newline}
+use Rattle.walk_question.specs.Fields.{lineOf}
+
+-- what was dropped
+pub record Cut (bs line : List ℕ) : Type 0 where
+  pub after : List ℕ
+  pub text : bs ≡ line ++ after
+  pub ends : Ends after
+
+pub cut : (bs : List ℕ) → Cut bs (lineOf bs)
+unfolding lineOf
+cut [] = record { after = []; text = refl; ends = at-end }
+cut (a ∷ s) = go (eqb (getD (a ∷ s) (length (a ∷ s) - 1) 0) 10) refl
+  where
+    go : (t : Bool) → eqb (getD (a ∷ s) (length (a ∷ s) - 1) 0) 10 ≡ t → Cut (a ∷ s) (pick t (take (length (a ∷ s) - 1) (a ∷ s)) (a ∷ s))
+    go true t =
+        let bs = a ∷ s in
+        let n = length bs - 1 in
+        let b = eqb-true (getD bs n 0) 10 t in
+        let none = drop-of-length-le bs {i = suc n} (omega arith) in
+        record { after = 10 ∷ []; text = split-at bs n 0 (omega arith) ∙ (λ d. take n bs ++ b d ∷ none d); ends = at-newline }
+    go false t = record { after = []; text = sym (append-nil (a ∷ s)); ends = at-end }
+
+by-last : (x : List ℕ) (b : ℕ) → lineOf (x ++ b ∷ []) ≡ pick (eqb b 10) x (x ++ b ∷ [])
+unfolding lineOf
+by-last x b =
+    let n : length (x ++ b ∷ []) - 1 ≡ length x = omega (arith, length-append x (b ∷ [])) in
+    rw (n, getD-append-seam x b [] 0, take-append-seam x (b ∷ [])) refl
+
+-- bytes of which the last is no newline
+pub record Closed (x : List ℕ) : Type 0 where
+  pub front : List ℕ
+  pub byte : ℕ
+  pub is : x ≡ front ++ byte ∷ []
+  pub other : byte ≡ 10 → ⊥
+
+pub decimal-closed : (n : ℕ) → Closed (decimal n)
+decimal-closed n =
+    elim (decLt n 10) [
+      | yes s ↦ record { front = []; byte = digit n; is = small n s; other = λ e. omega arith }
+      | no l ↦ record { front = decimal (n / 10); byte = digit (n % 10); is = large n (omega arith); other = λ e. omega arith }
+    ]
+
+pub after : (a : List ℕ) {x : List ℕ} → Closed x → Closed (a ++ x)
+after a c =
+    record {
+      front = a ++ c .front;
+      byte = c .byte;
+      is = ap (λ (x : List ℕ). a ++ x) (c .is) ∙ sym (append-assoc a (c .front) (c .byte ∷ []));
+      other = c .other;
+    }
+
+pub cut-off : {x end : List ℕ} → Closed x → Ends end → lineOf (x ++ end) ≡ x
+cut-off {x} c at-end =
+    ap lineOf (append-nil x ∙ c .is) ∙ (by-last (c .front) (c .byte) ∙ rw (ne-eqb (c .byte) 10 (c .other)) (sym (c .is)))
+cut-off {x} c at-newline = by-last x 10
+
+-- an empty line has none
+pub empty : (bs : List ℕ) → length bs ≤ 0 → take (length bs) bs ≡ lineOf bs
+unfolding lineOf
+empty [] h = refl
+empty (b ∷ bs) h = absurd (omega arith)
