@@ -63,9 +63,9 @@ pub decimal-whole : (n : ℕ) → Whole (decimal n)
 decimal-whole n = decimal-to (suc n) n (omega arith)
 
 -- such a word before a space, and at the end
-pub before-space : {w : List ℕ} → Whole w → (rest : List ℕ) → words (w ++ 32 ∷ rest) ≡ w ∷ words rest
+pub before-space : {w : List ℕ} {ws : List (List ℕ)} → Whole w → (rest : List ℕ) → words rest ≡ ws → words (w ++ 32 ∷ rest) ≡ w ∷ ws
 unfolding words
-before-space {w} h rest = h .on (32 ∷ rest) [] (words rest) refl ∙ ap (λ (x : List ℕ). x ∷ words rest) (append-nil w)
+before-space {w} {ws} h rest e = h .on (32 ∷ rest) [] ws (ap (λ (x : List (List ℕ)). [] ∷ x) e) ∙ ap (λ (x : List ℕ). x ∷ ws) (append-nil w)
 
 pub at-end : {w : List ℕ} → Whole w → words w ≡ w ∷ []
 unfolding words

@@ -4,7 +4,7 @@ use mathlib.Core.Bool.{Bool, true, false, false≢true, not, _&&_}
 use mathlib.Core.List.{List, [], _∷_, _++_, append-assoc, append-nil}
 use Prim.Native.Nat.{ℕ, zero, suc, _+_, _-_, _*_, _/_, _%_, _^_, _≤_, _<_}
 use native.Mathlib.Decide.{decLt}
-use native.Mathlib.Nat.{not-suc-le-zero, one-le-pow}
+use native.Mathlib.Nat.{not-suc-le-zero, one-le-pow, one-mul, le-of-eq}
 use native.Mathlib.Omega.{arith}
 use lib.Dec.{ltb, eqb, lit≤}
 use lib.ListN.{length, getD, length-append}
@@ -12,11 +12,11 @@ use borrow.Author.Tests.{lt-ltb, le-ltb, ne-eqb, eq-eqb, ltb-true}
 use Rattle.reply.specs.Choice.{pick}
 use Rattle.reply.proofs.Entries.{both}
 use Rattle.text.specs.Numbers.{decimal, digit}
-use Rattle.text.proofs.Decimals.{small, large, longer, some-digit, short10}
+use Rattle.text.proofs.Decimals.{small, large, longer, some-digit, short, short10}
 use Rattle.ask_read.specs.declared.Digits.{Digits}
 use Rattle.ask_read.specs.declared.Field.{Field}
 use Rattle.ask_read.specs.Words.{digitOf, digits, none, withDigit, spelt, plain, numeric, bad, numberFrom, numberField}
-use Rattle.ask_read.proofs.Spelling.{within, spelt-append}
+use Rattle.ask_read.proofs.Spelling.{within, spelt-room, spelt-append}
 use Rattle.ask_read.proofs.Longest.{good-before, first, some-digit as counts}
 
 -- ---- one digit
@@ -70,35 +70,24 @@ spelt-decimal (suc t) n h =
           (took (n / 10) b (omega arith) ∙ ap (λ (x : ℕ). digits x true) e)
     ]
 
--- it does not begin with 0, but for 0 itself
-begins : (t n : ℕ) → n < t → 1 ≤ n → 49 ≤ getD (decimal n) 0 0
-begins zero n h g = absurd (not-suc-le-zero h)
-begins (suc t) n h g =
-    elim (decLt n 10) [
-      | yes s ↦ rw (small n s) (omega arith)
-      | no l ↦
-          rw (large n (omega arith), front (decimal (n / 10)) (digit (n % 10) ∷ []) (some-digit (n / 10)))
-          (begins t (n / 10) (omega arith) (omega arith))
-    ]
-  where
-    front : (x y : List ℕ) → 1 ≤ length x → getD (x ++ y) 0 0 ≡ getD x 0 0
-    front [] y h = absurd (not-suc-le-zero h)
-    front (b ∷ x) y h = refl
-
-decimal-plain : (n : ℕ) → plain (decimal n) ≡ true
-unfolding plain
-decimal-plain n =
-    elim (decLt n 10) [
-      | yes s ↦ rw (small n s) refl
-      | no l ↦
-          let b = begins (suc n) n (omega arith) (omega arith) in
-          rw (le-ltb (length (decimal n)) 2 (omega (arith, longer n (omega arith), some-digit (n / 10))), ne-eqb (getD (decimal n) 0 0) 48 (λ e. omega arith)) refl
-    ]
+-- it does not begin with 0, but for 0 itself: the other digits alone hold no such number
+decimal-plain : (w : List ℕ) (n : ℕ) → decimal n ≡ w → plain w ≡ true
+unfolding plain spelt withDigit digitOf
+decimal-plain [] n e = absurd (omega (arith, some-digit n, ap length e))
+decimal-plain (b ∷ []) n e = refl
+decimal-plain (b ∷ c ∷ s) n e =
+    rw (
+      le-ltb (suc (suc (length s))) 2 (omega arith),
+      ne-eqb b 48 (λ z.
+          let v : spelt 10 none (c ∷ s) ≡ digits n true = ap (spelt 10 none) ((λ d. sym z d ∷ c ∷ s) ∙ sym e) ∙ spelt-decimal (suc n) n (omega arith) in
+          let room = spelt-room 10 none (c ∷ s) (10 ^ suc (length s)) (lit≤ tt) (record { fits = le-of-eq (one-mul (10 ^ suc (length s))) }) in
+          omega (arith, ap length e, short (length s) n (omega (arith, room, ap (λ (d : Digits). d .value) v)))),
+    ) refl
 
 pub number-read : (n : ℕ) → n < 4294967296 → numberField (decimal n) ≡ numeric n
 unfolding numberField numberFrom
 number-read n h =
-    rw (lt-ltb (length (decimal n)) 11 (omega (arith, short10 n h)), decimal-plain n, spelt-decimal (suc n) n (omega arith), lt-ltb n 4294967296 h) refl
+    rw (lt-ltb (length (decimal n)) 11 (omega (arith, short10 n h)), decimal-plain (decimal n) n refl, spelt-decimal (suc n) n (omega arith), lt-ltb n 4294967296 h) refl
 
 -- ---- and what is read as a number is its decimal
 
@@ -109,33 +98,33 @@ one-more v d h g =
     let last : (10 * v + d) % 10 ≡ d = omega arith in
     large (10 * v + d) (omega arith) ∙ (λ n. decimal (tenth n) ++ digit (last n) ∷ [])
 
-onward : (v : ℕ) (s : List ℕ) → 0 < v → spelt 10 (digits v true) s .good ≡ true → decimal v ++ s ≡ decimal (spelt 10 (digits v true) s .value)
+onward : (v : ℕ) (s : List ℕ) → (1 ≤ length s → 0 < v) → spelt 10 (digits v true) s .good ≡ true → decimal v ++ s ≡ decimal (spelt 10 (digits v true) s .value)
 unfolding spelt
 onward v [] h e = append-nil (decimal v)
 onward v (b ∷ s) h e =
+    let some = h (omega arith) in
     let g = took-good (digits v true) b (good-before 10 (withDigit 10 (digits v true) b) s e) in
-    let w = took v b g in
-    let one : decimal v ++ b ∷ [] ≡ decimal (10 * v + digitOf b) = ap (λ (x : ℕ). decimal v ++ x ∷ []) (digit-is b g) ∙ sym (one-more v (digitOf b) h g) in
-    let same = ap (λ (d : Digits). spelt 10 d s) w in
-    let rest = onward (10 * v + digitOf b) s (omega arith) (ap (λ (d : Digits). d .good) (sym same) ∙ e) in
+    let one : decimal v ++ b ∷ [] ≡ decimal (10 * v + digitOf b) = ap (λ (x : ℕ). decimal v ++ x ∷ []) (digit-is b g) ∙ sym (one-more v (digitOf b) some g) in
+    let same = ap (λ (d : Digits). spelt 10 d s) (took v b g) in
+    let rest = onward (10 * v + digitOf b) s (λ more. omega arith) (ap (λ (d : Digits). d .good) (sym same) ∙ e) in
     sym (append-assoc (decimal v) (b ∷ []) s) ∙
     (ap (λ (x : List ℕ). x ++ s) one ∙ (rest ∙ ap (λ (d : Digits). decimal (d .value)) (sym same)))
+
+leads : (b : ℕ) (s : List ℕ) → plain (b ∷ s) ≡ true → 1 ≤ length s → 0 < 10 * 0 + digitOf b
+leads b [] p h = absurd (not-suc-le-zero h)
+leads b (c ∷ s) p h = omega (arith, counts b (first b c s p))
 
 spelt-is : (w : List ℕ) → plain w ≡ true → spelt 10 none w .good ≡ true → w ≡ decimal (spelt 10 none w .value)
 unfolding spelt plain
 spelt-is [] p e = absurd (false≢true p)
-spelt-is (b ∷ []) p e =
-    let g = took-good none b e in
-    let z : 10 * 0 + digitOf b ≡ digitOf b = omega arith in
-    rw (took 0 b g, z) (rw (small (digitOf b) g) (ap (λ (x : ℕ). x ∷ []) (digit-is b g)))
-spelt-is (b ∷ c ∷ s) p e =
-    let g = took-good none b (good-before 10 (withDigit 10 none b) (c ∷ s) e) in
-    let z : 10 * 0 + digitOf b ≡ digitOf b = omega arith in
-    let w : withDigit 10 none b ≡ digits (digitOf b) true = took 0 b g ∙ ap (λ (x : ℕ). digits x true) z in
-    let one : decimal (digitOf b) ≡ b ∷ [] = small (digitOf b) g ∙ ap (λ (x : ℕ). x ∷ []) (sym (digit-is b g)) in
-    let same = ap (λ (d : Digits). spelt 10 d (c ∷ s)) w in
-    let rest = onward (digitOf b) (c ∷ s) (counts b (first b c s p)) (ap (λ (d : Digits). d .good) (sym same) ∙ e) in
-    ap (λ (x : List ℕ). x ++ c ∷ s) (sym one) ∙ (rest ∙ ap (λ (d : Digits). decimal (d .value)) (sym same))
+spelt-is (b ∷ s) p e =
+    let g = took-good none b (good-before 10 (withDigit 10 none b) s e) in
+    let x = 10 * 0 + digitOf b in
+    let is : b ≡ digit x = omega (arith, digit-is b g) in
+    let same = ap (λ (d : Digits). spelt 10 d s) (took 0 b g) in
+    let rest = onward x s (leads b s p) (ap (λ (d : Digits). d .good) (sym same) ∙ e) in
+    (λ d. is d ∷ s) ∙
+    (ap (λ (y : List ℕ). y ++ s) (sym (small x (omega arith))) ∙ (rest ∙ ap (λ (d : Digits). decimal (d .value)) (sym same)))
 
 pub number-is : (w : List ℕ) → numberField w .good ≡ true → w ≡ decimal (numberField w .number)
 unfolding numberField numberFrom

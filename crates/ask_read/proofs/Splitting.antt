@@ -75,8 +75,12 @@ pub all-words : (line : List ℕ) → wordsFrom line 0 ≡ words line
 unfolding wordsFrom
 all-words line = rw (le-leb 0 (length line) (omega arith)) refl
 
--- an empty line has no carriage return
-pub bare-empty : (line : List ℕ) → length line ≤ 0 → take (length line) line ≡ bare line
+-- nothing ends an empty line
+pub bare-empty : (end : ℕ) (line : List ℕ) → length line ≤ 0 → take (length line) line ≡ bare end line
 unfolding bare
-bare-empty [] h = refl
-bare-empty (b ∷ line) h = absurd (omega arith)
+bare-empty end [] h = go (eqb 0 end)
+  where
+    go : (t : Bool) → _≡_ {A = List ℕ} [] (pick t [] [])
+    go true = refl
+    go false = refl
+bare-empty end (b ∷ line) h = absurd (omega arith)

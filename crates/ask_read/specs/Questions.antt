@@ -131,6 +131,6 @@ settleOf line = filledBy (rowAt 6) (words line)
 unfoldable pub wordsFrom : List ℕ → ℕ → List (List ℕ)
 wordsFrom line at = pick (leb at (length line)) (words (drop at line)) []
 
--- a line without the carriage return, 13, that belongs to its newline
-unfoldable pub bare : List ℕ → List ℕ
-bare line = pick (eqb (getD line (length line - 1) 0) 13) (take (length line - 1) line) line
+-- a line without a byte that ends it: a newline, 10, or the carriage return, 13, that belongs to one
+unfoldable pub bare : ℕ → List ℕ → List ℕ
+bare end line = pick (eqb (getD line (length line - 1) 0) end) (take (length line - 1) line) line

@@ -459,13 +459,13 @@ pub fn read_settle(line: &[u8]) -> Question
     fill_row(6, line, 0)
 }
 
-// How many bytes a line has without the carriage return that belongs to its newline.
-pub fn without_return(line: &[u8]) -> usize
-    ensures { λ r. ⌜ (r ≤ length (now (line .entry))) × (take r (now (line .entry)) ≡ bare (now (line .entry))) ⌝ }
+// How many bytes a line has without a byte that ends it: a newline, or the carriage return that belongs to one.
+pub fn without_end(line: &[u8], end: u8) -> usize
+    ensures { λ r. ⌜ (r ≤ length (now (line .entry))) × (take r (now (line .entry)) ≡ bare end (now (line .entry))) ⌝ }
 {
     let len = line.len();
     if 0 < len {
-        if line[len - 1] == b'\r' {
+        if line[len - 1] == end {
             return len - 1;
         }
     }

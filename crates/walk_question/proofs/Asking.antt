@@ -55,14 +55,7 @@ kind-is w e = go (same w (text "p")) (same w (text "s")) refl refl e
 -- ---- the words of a question
 
 abbrev wordsOf : Question → List (List ℕ)
-wordsOf q =
-    decimal (q .place .face) ∷
-    decimal (q .level .0) ∷
-    (letter (q .substrate) ∷ []) ∷
-    decimal (q .place .i) ∷
-    decimal (q .place .j) ∷
-    decimal (q .place .k) ∷
-    []
+wordsOf q = decimal (q .place .face) ∷ decimal (q .level .0) ∷ (letter (q .substrate) ∷ []) ∷ decimal (q .place .i) ∷ decimal (q .place .j) ∷ decimal (q .place .k) ∷ []
 
 words-joined : (q : Question) → spaced (wordsOf q) ≡ 32 ∷ fieldsOf q
 unfolding fieldsOf field
@@ -75,16 +68,8 @@ not-space false e = omega arith
 words-split : (q : Question) → words (fieldsOf q) ≡ wordsOf q
 unfolding fieldsOf field
 words-split q =
-    let s = letter (q .substrate) in
-    before-space (decimal-whole (q .place .face)) _ ∙
-    ap (λ (x : List (List ℕ)). decimal (q .place .face) ∷ x)
-    (before-space (decimal-whole (q .level .0)) _ ∙
-    ap (λ (x : List (List ℕ)). decimal (q .level .0) ∷ x)
-    (before-space (one-byte s (not-space (q .substrate))) _ ∙
-    ap (λ (x : List (List ℕ)). (s ∷ []) ∷ x)
-    (before-space (decimal-whole (q .place .i)) _ ∙
-    ap (λ (x : List (List ℕ)). decimal (q .place .i) ∷ x)
-    (before-space (decimal-whole (q .place .j)) _ ∙ ap (λ (x : List (List ℕ)). decimal (q .place .j) ∷ x) (alone (decimal-whole (q .place .k)))))))
+    let coordinates = before-space (decimal-whole (q .place .i)) _ (before-space (decimal-whole (q .place .j)) _ (alone (decimal-whole (q .place .k)))) in
+    before-space (decimal-whole (q .place .face)) _ (before-space (decimal-whole (q .level .0)) _ (before-space (one-byte (letter (q .substrate)) (not-space (q .substrate))) _ coordinates))
 
 line-is : (q : Question) (bs : List ℕ) → Asks q bs → lineOf bs ≡ fieldsOf q
 unfolding fieldsOf field
@@ -93,39 +78,18 @@ line-is q bs a =
     let closed = after (decimal (q .place .face)) (after (32 ∷ decimal (q .level .0)) (after (32 ∷ letter (q .substrate) ∷ []) (after (32 ∷ decimal (q .place .i)) (after (32 ∷ decimal (q .place .j)) last)))) in
     ap lineOf (a .text) ∙ cut-off closed (a .ends)
 
--- ---- six words
+-- words that are the fields of `settle` are those of the question that they give
+abbrev Own : List (List ℕ) → Type 0
+Own ws = ws ≡ wordsOf (questionOf (filledBy (rowAt 6) ws .numbers))
 
-abbrev numbersOf : List ℕ → List ℕ → List ℕ → List ℕ → List ℕ → List ℕ → List ℕ
-numbersOf f l s i j k =
-    numberField f .number ∷
-    numberField l .number ∷
-    kind s .number ∷
-    numberField i .number ∷
-    numberField j .number ∷
-    numberField k .number ∷
-    0 ∷
-    0 ∷
-    []
+own : (f l s i j k : List ℕ) → numberField f .good ≡ true → numberField l .good ≡ true → kind s .good ≡ true → numberField i .good ≡ true → numberField j .good ≡ true → numberField k .good ≡ true → Own (f ∷ l ∷ s ∷ i ∷ j ∷ k ∷ [])
+unfolding rowAt fieldOf filled
+own f l s i j k gf gl gs gi gj gk =
+    rw (gf, gl, gs, gi, gj, gk) (λ d. number-is f gf d ∷ number-is l gl d ∷ kind-is s gs d ∷ number-is i gi d ∷ number-is j gj d ∷ number-is k gk d ∷ [])
 
--- words that are the fields of `settle`, and the numbers that they give
-record Six (ws : List (List ℕ)) : Type 0 where
-  pub f : List ℕ
-  pub l : List ℕ
-  pub s : List ℕ
-  pub i : List ℕ
-  pub j : List ℕ
-  pub k : List ℕ
-  pub is : ws ≡ f ∷ l ∷ s ∷ i ∷ j ∷ k ∷ []
-  pub face : numberField f .good ≡ true
-  pub level : numberField l .good ≡ true
-  pub sort : kind s .good ≡ true
-  pub at-i : numberField i .good ≡ true
-  pub at-j : numberField j .good ≡ true
-  pub at-k : numberField k .good ≡ true
-
-six : (ws : List (List ℕ)) → readable (rowAt 6 .kinds) ws ≡ true → Six ws
+words-are : (ws : List (List ℕ)) → readable (rowAt 6 .kinds) ws ≡ true → Own ws
 unfolding rowAt fieldOf
-six ws e =
+words-are ws e =
     let f = first 110 (text "npnnn") ws e in
     let l = first 110 (text "pnnn") (f .more) (f .on) in
     let s = first 112 (text "nnn") (l .more) (l .on) in
@@ -133,25 +97,8 @@ six ws e =
     let j = first 110 (text "n") (i .more) (i .on) in
     let k = first 110 [] (j .more) (j .on) in
     let none = no-more (k .more) (k .on) in
-    record {
-      f = f .word;
-      l = l .word;
-      s = s .word;
-      i = i .word;
-      j = j .word;
-      k = k .word;
-      is = rw (← none, ← (k .is), ← (j .is), ← (i .is), ← (s .is), ← (l .is)) (f .is);
-      face = f .good;
-      level = l .good;
-      sort = s .good;
-      at-i = i .good;
-      at-j = j .good;
-      at-k = k .good;
-    }
-
-six-numbers : (ws : List (List ℕ)) (x : Six ws) → filledBy (rowAt 6) ws .numbers ≡ numbersOf (x .f) (x .l) (x .s) (x .i) (x .j) (x .k)
-unfolding filled fieldOf rowAt
-six-numbers ws x = rw (x .is, x .face, x .level, x .sort, x .at-i, x .at-j, x .at-k) refl
+    let is : ws ≡ f .word ∷ l .word ∷ s .word ∷ i .word ∷ j .word ∷ k .word ∷ [] = rw (← none, ← (k .is), ← (j .is), ← (i .is), ← (s .is), ← (l .is)) (f .is) in
+    subst Own (sym is) (own (f .word) (l .word) (s .word) (i .word) (j .word) (k .word) (f .good) (l .good) (s .good) (i .good) (j .good) (k .good))
 
 -- a number of few digits, as a field
 record Few (n top : ℕ) : Type 0 where
@@ -187,31 +134,25 @@ module _ (bs : List ℕ) where
   -- good fields with few digits are the text of their question
   asked : readable (rowAt 6 .kinds) ws ≡ true → isShort numbers ≡ true → Asks (questionOf numbers) bs
   asked r t =
-      let x = six ws r in
-      let ns = numbersOf (x .f) (x .l) (x .s) (x .i) (x .j) (x .k) in
-      let is : numbers ≡ ns = six-numbers ws x in
-      let q = questionOf ns in
-      let u : isShort ns ≡ true = ap isShort (sym is) ∙ t in
-      let g4 = both (ltb (getD ns 0 0) 100 && ltb (getD ns 1 0) 100 && ltb (getD ns 3 0) 10000 && ltb (getD ns 4 0) 10000) (ltb (getD ns 5 0) 10000) u in
-      let g3 = both (ltb (getD ns 0 0) 100 && ltb (getD ns 1 0) 100 && ltb (getD ns 3 0) 10000) (ltb (getD ns 4 0) 10000) (g4 .0) in
-      let g2 = both (ltb (getD ns 0 0) 100 && ltb (getD ns 1 0) 100) (ltb (getD ns 3 0) 10000) (g3 .0) in
-      let g1 = both (ltb (getD ns 0 0) 100) (ltb (getD ns 1 0) 100) (g2 .0) in
-      let w : ws ≡ wordsOf q = x .is ∙ (λ d. number-is (x .f) (x .face) d ∷ number-is (x .l) (x .level) d ∷ kind-is (x .s) (x .sort) d ∷ number-is (x .i) (x .at-i) d ∷ number-is (x .j) (x .at-j) d ∷ number-is (x .k) (x .at-k) d ∷ []) in
-      let line : lineOf bs ≡ fieldsOf q = ap (drop 1) (joined (lineOf bs) ∙ (ap spaced w ∙ words-joined q)) in
+      let q = questionOf numbers in
+      let g4 = both _ (ltb (q .place .k) 10000) t in
+      let g3 = both _ (ltb (q .place .j) 10000) (g4 .0) in
+      let g2 = both _ (ltb (q .place .i) 10000) (g3 .0) in
+      let g1 = both (ltb (q .place .face) 100) (ltb (q .level .0) 100) (g2 .0) in
+      let line : lineOf bs ≡ fieldsOf q = ap (drop 1) (joined (lineOf bs) ∙ (ap spaced (words-are ws r) ∙ words-joined q)) in
       let c = cut bs in
-      subst (λ (ns : List ℕ). Asks (questionOf ns) bs) (sym is)
-      (record {
+      record {
         short = record {
-          face = short 1 (getD ns 0 0) (ltb-true (getD ns 0 0) 100 (g1 .0));
-          level = short 1 (getD ns 1 0) (ltb-true (getD ns 1 0) 100 (g1 .1));
-          i = short 3 (getD ns 3 0) (ltb-true (getD ns 3 0) 10000 (g2 .1));
-          j = short 3 (getD ns 4 0) (ltb-true (getD ns 4 0) 10000 (g3 .1));
-          k = short 3 (getD ns 5 0) (ltb-true (getD ns 5 0) 10000 (g4 .1));
+          face = short 1 (q .place .face) (ltb-true (q .place .face) 100 (g1 .0));
+          level = short 1 (q .level .0) (ltb-true (q .level .0) 100 (g1 .1));
+          i = short 3 (q .place .i) (ltb-true (q .place .i) 10000 (g2 .1));
+          j = short 3 (q .place .j) (ltb-true (q .place .j) 10000 (g3 .1));
+          k = short 3 (q .place .k) (ltb-true (q .place .k) 10000 (g4 .1));
         };
         after = c .after;
         text = c .text ∙ ap (λ (x : List ℕ). x ++ c .after) line;
         ends = c .ends;
-      })
+      }
 
   to-text : (q : Question) → readingOf bs ≡ Reading.Line q → Asks q bs
   unfolding readingOf ofNumbers

@@ -13,6 +13,7 @@ use Rattle.reply.specs.Choice.{pick}
 use Rattle.text.specs.Numbers.{decimal, digit}
 use Rattle.text.proofs.Decimals.{small, large}
 use Rattle.walk_question.specs.Reading.{Ends, at-end, at-newline}
+use Rattle.ask_read.specs.Questions.{bare}
 use Rattle.walk_question.specs.Fields.{lineOf}
 
 -- what was dropped
@@ -22,7 +23,7 @@ pub record Cut (bs line : List ℕ) : Type 0 where
   pub ends : Ends after
 
 pub cut : (bs : List ℕ) → Cut bs (lineOf bs)
-unfolding lineOf
+unfolding bare
 cut [] = record { after = []; text = refl; ends = at-end }
 cut (a ∷ s) = go (eqb (getD (a ∷ s) (length (a ∷ s) - 1) 0) 10) refl
   where
@@ -36,7 +37,7 @@ cut (a ∷ s) = go (eqb (getD (a ∷ s) (length (a ∷ s) - 1) 0) 10) refl
     go false t = record { after = []; text = sym (append-nil (a ∷ s)); ends = at-end }
 
 by-last : (x : List ℕ) (b : ℕ) → lineOf (x ++ b ∷ []) ≡ pick (eqb b 10) x (x ++ b ∷ [])
-unfolding lineOf
+unfolding bare
 by-last x b =
     let n : length (x ++ b ∷ []) - 1 ≡ length x = omega (arith, length-append x (b ∷ [])) in
     rw (n, getD-append-seam x b [] 0, take-append-seam x (b ∷ [])) refl
@@ -68,9 +69,3 @@ pub cut-off : {x end : List ℕ} → Closed x → Ends end → lineOf (x ++ end)
 cut-off {x} c at-end =
     ap lineOf (append-nil x ∙ c .is) ∙ (by-last (c .front) (c .byte) ∙ rw (ne-eqb (c .byte) 10 (c .other)) (sym (c .is)))
 cut-off {x} c at-newline = by-last x 10
-
--- an empty line has none
-pub empty : (bs : List ℕ) → length bs ≤ 0 → take (length bs) bs ≡ lineOf bs
-unfolding lineOf
-empty [] h = refl
-empty (b ∷ bs) h = absurd (omega arith)

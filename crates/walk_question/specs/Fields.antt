@@ -1,18 +1,18 @@
 -- Reading a line by its words, so that it can be computed. What a line must be is said in specs/Reading; proofs/Asking, `reads`, shows that this says the same.
 use mathlib.Core.Bool.{Bool, _&&_}
 use mathlib.Core.List.{List}
-use Prim.Native.Nat.{ℕ, _-_}
+use Prim.Native.Nat.{ℕ}
 use lib.Dec.{ltb, eqb}
-use lib.ListN.{length, getD, take}
+use lib.ListN.{getD}
 use Rattle.reply.specs.Choice.{pick}
 use Rattle.text.specs.Numbers.{newline}
-use Rattle.ask_read.specs.Questions.{words, rowAt, readable, settleOf}
+use Rattle.ask_read.specs.Questions.{words, rowAt, readable, settleOf, bare}
 use Rattle.walk_question.specs.declared.Question.{Question}
 use Rattle.walk_question.specs.declared.Reading.{Reading}
 
 -- a line without the newline at its end
-unfoldable pub lineOf : List ℕ → List ℕ
-lineOf bs = pick (eqb (getD bs (length bs - 1) 0) newline) (take (length bs - 1) bs) bs
+abbrev pub lineOf : List ℕ → List ℕ
+lineOf bs = bare newline bs
 
 abbrev pub questionOf : List ℕ → Question
 questionOf ns =

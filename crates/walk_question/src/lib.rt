@@ -1,9 +1,7 @@
 // The line that `walk` reads, taken from a lent slice of any length and any bytes.
 ghost use mathlib.Core.Path.{_≡_};
-ghost use Prim.Native.Nat.{_≤_};
-ghost use lib.ListN.{length, take};
 ghost use Rattle.walk_question.specs.Reading.{Read};
-ghost use Rattle.walk_question.specs.Fields.{lineOf, ofNumbers};
+ghost use Rattle.walk_question.specs.Fields.{ofNumbers};
 use ask_read::Asked;
 use faceijk::Place;
 use level::GridLevel;
@@ -18,19 +16,6 @@ pub struct Question {
 pub enum Reading {
     Line(Question),
     BadLine,
-}
-
-// How many bytes a line has without the newline at its end.
-fn without_newline(s: &[u8]) -> usize
-    ensures { λ r. ⌜ (r ≤ length (now (s .entry))) × (take r (now (s .entry)) ≡ lineOf (now (s .entry))) ⌝ }
-{
-    let len = s.len();
-    if 0 < len {
-        if s[len - 1] == b'\n' {
-            return len - 1;
-        }
-    }
-    len
 }
 
 // The question of the fields: face, level, p or s, i, j, k.
@@ -52,7 +37,7 @@ fn of_numbers(n: [u32; 8]) -> Reading
 pub fn read_line(s: &[u8]) -> Reading
     ensures { λ r. ⌜ Read (now (s .entry)) r ⌝ }
 {
-    let len = without_newline(s);
+    let len = ask_read::without_end(s, b'\n');
     let q = ask_read::read_settle(&s[..len]);
     let asked = q.asked;
     let numbers = q.numbers;

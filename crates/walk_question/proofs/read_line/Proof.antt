@@ -23,19 +23,19 @@ not-settling : (a : Asked) → OneOf others (tagOf the-type a) → a ≡ Settle 
 not-settling a h e = miss others 6 tt (subst (λ (x : Asked). OneOf others (tagOf the-type x)) e h)
 
 slice-aggregate-read-settle : tie.Need-slice-aggregate-read-settle
-slice-aggregate-read-settle c = omega (arith, length-take (c .before .without-newline .result) (c .before .before .before .args .s .now), c .before .without-newline .ensures .0)
+slice-aggregate-read-settle c = omega (arith, length-take (c .before .without-end .result) (c .before .before .before .args .s .now), c .before .without-end .ensures .0)
 
 returns : tie.Need-returns
 returns c =
     let m = c .before .before .before .before in
-    let w = m .before .before .without-newline in
+    let w = m .before .before .without-end in
     let q = m .read-settle in
     settled (m .before .before .before .before .args .s .now) (q .result) (q .ensures ∙ ap settleOf (w .ensures .1)) (c .of-numbers .result) (c .before .enum-told .given .1) (c .of-numbers .ensures)
 
 returns-2 : tie.Need-returns-2
 returns-2 c =
     let m = c .before .before in
-    let w = m .before .before .without-newline in
+    let w = m .before .before .without-end in
     let q = m .read-settle in
     unsettled (m .before .before .before .before .args .s .now) (q .result) (q .ensures ∙ ap settleOf (w .ensures .1)) (not-settling (q .result .asked) (c .match .keys2))
 
