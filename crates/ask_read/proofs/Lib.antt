@@ -3,10 +3,8 @@ pub mod Spelling
 pub mod Patterns
 pub mod Decimals
 pub mod Rounded
-pub mod Longest
 pub mod Numerals
 pub mod Splitting
-pub mod Joining
 pub mod Filling
 pub mod Rows
 pub mod Examples

@@ -1,12 +1,12 @@
 -- A line is read as a question exactly when it is that question's text, and a line has one reading. Assumes nothing.
 use mathlib.Core.Path.{_≡_, refl, sym, ap, subst, _∙_}
-use mathlib.Core.Bool.{Bool, true, false, false≢true, _&&_}
+use mathlib.Core.Bool.{Bool, true, false, false≢true}
 use mathlib.Core.List.{List, [], _∷_, _++_, append-nil}
 use mathlib.Core.Logic.{_↔_}
 use Prim.Native.Nat.{ℕ, _^_, _≤_, _<_}
 use native.Mathlib.Omega.{arith}
 use lib.Dec.{ltb, eqb, lit≤}
-use lib.ListN.{length, getD, drop}
+use lib.ListN.{length, getD, drop, take, length-append, length-take}
 use borrow.Author.Tests.{lt-ltb, ltb-true}
 use Rattle.reply.specs.Choice.{pick}
 use Rattle.reply.specs.Text.{text}
@@ -19,15 +19,17 @@ use Rattle.ask_read.specs.declared.Question.{Question as Fields}
 use Rattle.ask_read.specs.Words.{numeric, numberField, bad, same, flagField}
 use Rattle.ask_read.specs.Questions.{words, rowAt, fieldOf, filled, readable, filledBy, blank, settleOf}
 use Rattle.ask_read.proofs.Numerals.{number-read, number-is, digits-hold}
-use Rattle.ask_read.proofs.Joining.{spaced, joined, one-byte, decimal-whole, before-space}
-use Rattle.ask_read.proofs.Joining.{at-end as alone}
 use Rattle.ask_read.proofs.Filling.{asked-filled, first, no-more}
 use Rattle.ask_read.proofs.Rows.{same-is}
 use Rattle.walk_question.specs.declared.Question.{Question}
 use Rattle.walk_question.specs.declared.Reading.{Reading}
-use Rattle.walk_question.specs.Reading.{letter, fieldsOf, Short, Asks, Read}
+use Rattle.walk_question.specs.Reading.{letter, fieldsOf, Short, Asks, Read, Ends, at-end, at-newline}
 use Rattle.walk_question.specs.Fields.{lineOf, questionOf, isShort, ofNumbers, readingOf}
 use Rattle.walk_question.proofs.Ending.{cut, decimal-closed, after, cut-off}
+use native.Mathlib.Decide.{decLt}
+use lib.Seq.{take-all}
+use Rattle.faceijk.specs.declared.Place.{Place}
+use Rattle.ask_read.proofs.Splitting.{spaced, joined, one-byte, decimal-whole, before-space, at-end as alone}
 
 -- ---- p or s
 
@@ -226,3 +228,33 @@ module _ (bs : List ℕ) (q : Fields) (is : q ≡ settleOf (lineOf bs)) where
       go : (t : Bool) → q .asked ≡ pick t Settle Unreadable → Reading.BadLine ≡ pick t (ofNumbers (settleOf (lineOf bs) .numbers)) Reading.BadLine
       go true f = absurd (h f)
       go false f = refl
+
+pub good : (ns : List ℕ) (p : Place) → p ≡ questionOf ns .place → isShort ns ≡ true → Reading.Line (record { place = p; level = record { 0 = getD ns 1 0 }; substrate = eqb (getD ns 2 0) 1 }) ≡ ofNumbers ns
+unfolding ofNumbers
+good ns p e t = rw (e, t) refl
+
+-- ---- how much of a line decides: no question's text has more than 23 bytes
+
+one-more : {after : List ℕ} → Ends after → length after ≤ 1
+one-more at-end = omega arith
+one-more at-newline = omega arith
+
+text-short : (q : Question) (bs : List ℕ) → Asks q bs → length bs ≤ 23
+unfolding fieldsOf field
+text-short q bs a =
+    let e = simp length-append at (ap length (a .text)) in
+    let s = a .short in
+    let o = one-more (a .ends) in
+    omega arith
+
+-- a line longer than any text is malformed
+pub too-long : (bs : List ℕ) → 23 < length bs → readingOf bs ≡ Reading.BadLine
+too-long bs h = malformed bs .1 (λ q a. omega (arith, text-short q bs a))
+
+-- so the first 64 bytes of an input say what the whole input says
+pub first-bytes : (bs : List ℕ) → readingOf (take 64 bs) ≡ readingOf bs
+first-bytes bs =
+    elim (decLt 64 (length bs)) [
+      | yes h ↦ too-long (take 64 bs) (omega (arith, length-take 64 bs)) ∙ sym (too-long bs (omega arith))
+      | no h ↦ ap readingOf (take-all 64 bs (omega arith))
+    ]

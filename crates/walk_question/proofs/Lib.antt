@@ -1,4 +1,3 @@
 -- Laws of `walk_question`: a line is read as what it asks, and how much of it decides.
 pub mod Ending
 pub mod Asking
-pub mod Longest
