@@ -1,24 +1,29 @@
--- A line is read as a question exactly when it is that question's text, and a line has one reading. Assumes nothing.
+-- A line is read as a question exactly when it is that question's text, a line has one reading, and 64 bytes decide it. Assumes nothing.
 use mathlib.Core.Path.{_≡_, refl, sym, ap, subst, _∙_}
 use mathlib.Core.Bool.{Bool, true, false, false≢true}
 use mathlib.Core.List.{List, [], _∷_, _++_, append-nil}
 use mathlib.Core.Logic.{_↔_}
 use Prim.Native.Nat.{ℕ, _^_, _≤_, _<_}
+use native.Mathlib.Decide.{decLt}
 use native.Mathlib.Omega.{arith}
 use lib.Dec.{ltb, eqb, lit≤}
 use lib.ListN.{length, getD, drop, take, length-append, length-take}
+use lib.Seq.{take-all}
 use borrow.Author.Tests.{lt-ltb, ltb-true}
 use Rattle.reply.specs.Choice.{pick}
 use Rattle.reply.specs.Text.{text}
 use Rattle.reply.proofs.Entries.{both}
 use Rattle.text.specs.Numbers.{decimal, field}
 use Rattle.text.proofs.Decimals.{short}
+use Rattle.faceijk.specs.declared.Place.{Place}
 use Rattle.ask_read.specs.declared.Field.{Field}
+use Rattle.ask_read.specs.declared.Asked.{Asked}
 use Rattle.ask_read.specs.declared.Asked.the-variants.{Settle, Unreadable}
 use Rattle.ask_read.specs.declared.Question.{Question as Fields}
 use Rattle.ask_read.specs.Words.{numeric, numberField, bad, same, flagField}
 use Rattle.ask_read.specs.Questions.{words, rowAt, fieldOf, filled, readable, filledBy, blank, settleOf}
 use Rattle.ask_read.proofs.Numerals.{number-read, number-is, digits-hold}
+use Rattle.ask_read.proofs.Splitting.{spaced, joined, one-byte, decimal-whole, before-space, at-end as alone}
 use Rattle.ask_read.proofs.Filling.{asked-filled, first, no-more}
 use Rattle.ask_read.proofs.Rows.{same-is}
 use Rattle.walk_question.specs.declared.Question.{Question}
@@ -26,10 +31,6 @@ use Rattle.walk_question.specs.declared.Reading.{Reading}
 use Rattle.walk_question.specs.Reading.{letter, fieldsOf, Short, Asks, Read, Ends, at-end, at-newline}
 use Rattle.walk_question.specs.Fields.{lineOf, questionOf, isShort, ofNumbers, readingOf}
 use Rattle.walk_question.proofs.Ending.{cut, decimal-closed, after, cut-off}
-use native.Mathlib.Decide.{decLt}
-use lib.Seq.{take-all}
-use Rattle.faceijk.specs.declared.Place.{Place}
-use Rattle.ask_read.proofs.Splitting.{spaced, joined, one-byte, decimal-whole, before-space, at-end as alone}
 
 -- ---- p or s
 
@@ -103,14 +104,8 @@ words-are ws e =
     subst Own (sym is) (own (f .word) (l .word) (s .word) (i .word) (j .word) (k .word) (f .good) (l .good) (s .good) (i .good) (j .good) (k .good))
 
 -- a number of few digits, as a field
-record Few (n top : ℕ) : Type 0 where
-  pub field : numberField (decimal n) ≡ numeric n
-  pub below : ltb n top ≡ true
-
-few : (k n top : ℕ) → 10 ^ k ≡ top → top ≤ 10000 → length (decimal n) ≤ k → Few n top
-few k n top e t h =
-    let l = digits-hold k n h in
-    record { field = number-read n (omega arith); below = lt-ltb n top (omega arith) }
+few : (k n top : ℕ) → 10 ^ k ≡ top → top ≤ 10000 → length (decimal n) ≤ k → (numberField (decimal n) ≡ numeric n) × (ltb n top ≡ true)
+few k n top e t h = let l = digits-hold k n h in (number-read n (omega arith), lt-ltb n top (omega arith))
 
 -- the words of a question with few digits are read, and give its numbers
 words-read : (q : Question) → Short q → (readable (rowAt 6 .kinds) (wordsOf q) ≡ true) × (ofNumbers (filledBy (rowAt 6) (wordsOf q) .numbers) ≡ Reading.Line q)
@@ -122,8 +117,8 @@ words-read q h =
     let j = few 4 (q .place .j) 10000 refl (lit≤ tt) (h .j) in
     let k = few 4 (q .place .k) 10000 refl (lit≤ tt) (h .k) in
     let s = kind-read (q .substrate) in (
-      rw (f .field, l .field, s, i .field, j .field, k .field) refl,
-      rw (f .field, l .field, s, i .field, j .field, k .field, f .below, l .below, i .below, j .below, k .below, kind-value (q .substrate)) refl,
+      rw (f .0, l .0, s, i .0, j .0, k .0) refl,
+      rw (f .0, l .0, s, i .0, j .0, k .0, f .1, l .1, i .1, j .1, k .1, kind-value (q .substrate)) refl,
     )
 
 module _ (bs : List ℕ) where
@@ -221,14 +216,16 @@ module _ (bs : List ℕ) (q : Fields) (is : q ≡ settleOf (lineOf bs)) where
       go true f = e ∙ ap (λ (x : Fields). ofNumbers (x .numbers)) is
       go false f = let z : _≡_ {A = ℕ} 0 1 = cc in absurd (omega arith)
 
-  pub unsettled : (q .asked ≡ Settle → ⊥) → Read bs Reading.BadLine
+  -- something holds of what is asked that does not hold of `Settle`
+  pub unsettled : (P : Asked → Type 0) → P (q .asked) → (P Settle → ⊥) → Read bs Reading.BadLine
   unfolding readingOf
-  unsettled h = is-read bs Reading.BadLine (go (readable (rowAt 6 .kinds) (words (lineOf bs))) asked-is)
+  unsettled P h other = is-read bs Reading.BadLine (go (readable (rowAt 6 .kinds) (words (lineOf bs))) (subst P asked-is h))
     where
-      go : (t : Bool) → q .asked ≡ pick t Settle Unreadable → Reading.BadLine ≡ pick t (ofNumbers (settleOf (lineOf bs) .numbers)) Reading.BadLine
-      go true f = absurd (h f)
-      go false f = refl
+      go : (t : Bool) → P (pick t Settle Unreadable) → Reading.BadLine ≡ pick t (ofNumbers (settleOf (lineOf bs) .numbers)) Reading.BadLine
+      go true h = absurd (other h)
+      go false h = refl
 
+-- short numbers are a question
 pub good : (ns : List ℕ) (p : Place) → p ≡ questionOf ns .place → isShort ns ≡ true → Reading.Line (record { place = p; level = record { 0 = getD ns 1 0 }; substrate = eqb (getD ns 2 0) 1 }) ≡ ofNumbers ns
 unfolding ofNumbers
 good ns p e t = rw (e, t) refl
