@@ -1,7 +1,7 @@
 -- A line is read as a question exactly when it is that question's text, a line has one reading, and 64 bytes decide it. Assumes nothing.
 use mathlib.Core.Path.{_≡_, refl, sym, ap, subst, _∙_}
 use mathlib.Core.Bool.{Bool, true, false, false≢true}
-use mathlib.Core.List.{List, [], _∷_, _++_, append-nil}
+use mathlib.Core.List.{List, [], _∷_, _++_, append-assoc, append-nil}
 use mathlib.Core.Logic.{_↔_}
 use Prim.Native.Nat.{ℕ, _^_, _≤_, _<_}
 use native.Mathlib.Decide.{decLt}
@@ -30,7 +30,7 @@ use Rattle.walk_question.specs.declared.Question.{Question}
 use Rattle.walk_question.specs.declared.Reading.{Reading}
 use Rattle.walk_question.specs.Reading.{letter, fieldsOf, Short, Asks, Read, Ends, at-end, at-newline}
 use Rattle.walk_question.specs.Fields.{lineOf, questionOf, isShort, ofNumbers, readingOf}
-use Rattle.walk_question.proofs.Ending.{cut, decimal-closed, after, cut-off}
+use Rattle.walk_question.proofs.Ending.{cut, after-number}
 
 -- ---- p or s
 
@@ -77,9 +77,9 @@ words-split q =
 line-is : (q : Question) (bs : List ℕ) → Asks q bs → lineOf bs ≡ fieldsOf q
 unfolding fieldsOf field
 line-is q bs a =
-    let last = after (32 ∷ []) (decimal-closed (q .place .k)) in
-    let closed = after (decimal (q .place .face)) (after (32 ∷ decimal (q .level .0)) (after (32 ∷ letter (q .substrate) ∷ []) (after (32 ∷ decimal (q .place .i)) (after (32 ∷ decimal (q .place .j)) last)))) in
-    ap lineOf (a .text) ∙ cut-off closed (a .ends)
+    let before = decimal (q .place .face) ++ (32 ∷ (decimal (q .level .0) ++ (32 ∷ letter (q .substrate) ∷ 32 ∷ (decimal (q .place .i) ++ (32 ∷ (decimal (q .place .j) ++ (32 ∷ []))))))) in
+    let is : before ++ decimal (q .place .k) ≡ fieldsOf q = simp append-assoc refl in
+    ap lineOf (a .text ∙ ap (λ (x : List ℕ). x ++ a .after) (sym is)) ∙ (after-number before (q .place .k) (a .ends) ∙ is)
 
 -- words that are the fields of `settle` are those of the question that they give
 abbrev Own : List (List ℕ) → Type 0

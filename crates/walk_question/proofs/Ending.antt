@@ -42,30 +42,14 @@ by-last x b =
     let n : length (x ++ b ∷ []) - 1 ≡ length x = omega (arith, length-append x (b ∷ [])) in
     rw (n, getD-append-seam x b [] 0, take-append-seam x (b ∷ [])) refl
 
--- bytes of which the last is no newline
-pub record Closed (x : List ℕ) : Type 0 where
-  pub front : List ℕ
-  pub byte : ℕ
-  pub is : x ≡ front ++ byte ∷ []
-  pub other : byte ≡ 10 → ⊥
+-- a line that ends with a digit loses a newline after it, and nothing else
+after-digit : (x : List ℕ) (d : ℕ) {end : List ℕ} → Ends end → lineOf ((x ++ digit d ∷ []) ++ end) ≡ x ++ digit d ∷ []
+after-digit x d at-end = rw (append-nil (x ++ digit d ∷ []), by-last x (digit d), ne-eqb (digit d) 10 (λ e. omega arith)) refl
+after-digit x d at-newline = by-last (x ++ digit d ∷ []) 10
 
-pub decimal-closed : (n : ℕ) → Closed (decimal n)
-decimal-closed n =
+pub after-number : (x : List ℕ) (n : ℕ) {end : List ℕ} → Ends end → lineOf ((x ++ decimal n) ++ end) ≡ x ++ decimal n
+after-number x n e =
     elim (decLt n 10) [
-      | yes s ↦ record { front = []; byte = digit n; is = small n s; other = λ e. omega arith }
-      | no l ↦ record { front = decimal (n / 10); byte = digit (n % 10); is = large n (omega arith); other = λ e. omega arith }
+      | yes s ↦ rw (small n s) (after-digit x n e)
+      | no l ↦ rw (large n (omega arith), ← (append-assoc x (decimal (n / 10)) (digit (n % 10) ∷ []))) (after-digit (x ++ decimal (n / 10)) (n % 10) e)
     ]
-
-pub after : (a : List ℕ) {x : List ℕ} → Closed x → Closed (a ++ x)
-after a c =
-    record {
-      front = a ++ c .front;
-      byte = c .byte;
-      is = ap (λ (x : List ℕ). a ++ x) (c .is) ∙ sym (append-assoc a (c .front) (c .byte ∷ []));
-      other = c .other;
-    }
-
-pub cut-off : {x end : List ℕ} → Closed x → Ends end → lineOf (x ++ end) ≡ x
-cut-off {x} c at-end =
-    ap lineOf (append-nil x ∙ c .is) ∙ (by-last (c .front) (c .byte) ∙ rw (ne-eqb (c .byte) 10 (c .other)) (sym (c .is)))
-cut-off {x} c at-newline = by-last x 10
