@@ -176,12 +176,12 @@ fn end_line(frame: &[f64], line: &mut [u8], bytes: &[u8], answers: &mut [u8], k:
     ensures { λ r. ⌜ (r .line ≡ 0) × (r .answers ≤ length (now (answers .entry))) ⌝ }
 {
     if k.line == 0 {
-        let n = ask_read::without_return(bytes);
+        let n = ask_read::without_end(bytes, b'\r');
         return answer(frame, &bytes[..n], answers, k);
     }
     let kept = keep(line, k, bytes);
     let all = kept.line;
-    let n = ask_read::without_return(&line[..all]);
+    let n = ask_read::without_end(&line[..all], b'\r');
     answer(frame, &line[..n], answers, kept)
 }
 

@@ -18,7 +18,8 @@ use Rattle.reply.specs.Choice.{pick}
 use Rattle.bytes.specs.Bytes.{indexOf, slice}
 use Rattle.ask_read.specs.declared.Digits.{Digits}
 use Rattle.ask_read.specs.Words.{none, spelt, plain, real, bad, decimalFrom, unsignedField}
-use Rattle.ask_read.proofs.Spelling.{both, Room, spelt-room, spelt-append}
+use Rattle.reply.proofs.Entries.{both}
+use Rattle.ask_read.proofs.Spelling.{Room, spelt-room, spelt-append}
 use Rattle.ask_read.proofs.Rounded.{once}
 
 -- ---- room

@@ -16,7 +16,7 @@ use Rattle.level.proofs.Computed.{all, at}
 use Rattle.ask_read.specs.declared.Asked.the-variants.{Unreadable}
 use Rattle.ask_read.specs.Words.{same}
 use Rattle.ask_read.specs.Questions.{Row, row, rows, rowOf, rowAt}
-use Rattle.ask_read.proofs.Spelling.{both}
+use Rattle.reply.proofs.Entries.{both}
 
 -- two words that agree byte by byte are one
 pub same-is : (s t : List ℕ) → same s t ≡ true → s ≡ t

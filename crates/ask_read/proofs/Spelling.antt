@@ -1,6 +1,6 @@
 -- Digits one after the other: how they are read, and how large their number gets. Assumes nothing.
 use mathlib.Core.Path.{_≡_, refl, sym, ap, _∙_}
-use mathlib.Core.Bool.{Bool, true, false, true≢false, _&&_}
+use mathlib.Core.Bool.{Bool, true, false, _&&_}
 use mathlib.Core.List.{List, [], _∷_, _++_}
 use Prim.Native.Nat.{ℕ, suc, _+_, _*_, _^_, _≤_, _<_}
 use native.Mathlib.Nat.{le-trans, le-of-eq, lt-of-le-of-lt, le-of-lt, mul-assoc, mul-comm, mul-one, mul-le-mul-left, mul-le-mul-right, pow-suc, one-le-pow, pow-le-pow-right}
@@ -11,14 +11,11 @@ use lib.ListN.{length, getD, drop, drop-of-length-le}
 use lib.Seq.{drop-cons}
 use borrow.Author.Tests.{ltb-true, eq-eqb, ne-eqb}
 use Rattle.reply.specs.Choice.{pick}
+use Rattle.reply.proofs.Entries.{both}
 use Rattle.ask_read.specs.declared.Digits.{Digits}
 use Rattle.ask_read.specs.Words.{digitOf, digits, withDigit, spelt, same}
 
 -- ---- tests
-
-pub both : (a b : Bool) → (a && b) ≡ true → (a ≡ true) × (b ≡ true)
-both true b e = (refl, e)
-both false b e = absurd (true≢false (sym e))
 
 pub within : (low high b : ℕ) → (ltb low b && ltb b high) ≡ true → (low < b) × (b < high)
 within low high b e = let r = both (ltb low b) (ltb b high) e in (ltb-true low b (r .0), ltb-true b high (r .1))

@@ -1,4 +1,5 @@
 -- What a line asks: words with single spaces between, of which the first names the question and the others are its fields.
+use mathlib.Core.Bool.{Bool, true, false, _&&_}
 use mathlib.Core.List.{List, [], _∷_}
 use Prim.Native.Nat.{ℕ, suc, _-_}
 use Prim.Native.String.{String}
@@ -104,6 +105,12 @@ filled k [] (w ∷ ws) q = unreadable
 filled k (kind ∷ kinds) ws q =
     pick (firstField kind ws .good) (filled (suc k) kinds (others ws) (put k (firstField kind ws) q)) unreadable
 
+-- whether there is a word for each kind, each a good field of it, and no more
+unfoldable pub readable : List ℕ → List (List ℕ) → Bool
+readable [] [] = true
+readable [] (w ∷ ws) = false
+readable (kind ∷ kinds) ws = firstField kind ws .good && readable kinds (others ws)
+
 -- the fields of a row's question
 abbrev pub filledBy : Row → List (List ℕ) → Question
 filledBy r ws = filled 0 (r .kinds) ws (blank (r .asked))
@@ -116,10 +123,14 @@ ofWords (w ∷ ws) = filledBy (rowAt (rowOf w rows)) ws
 unfoldable pub questionOf : List ℕ → Question
 questionOf line = ofWords (words line)
 
+-- a line of the fields of `settle` alone, row 6, without its name
+abbrev pub settleOf : List ℕ → Question
+settleOf line = filledBy (rowAt 6) (words line)
+
 -- the words from an index on: none past the end
 unfoldable pub wordsFrom : List ℕ → ℕ → List (List ℕ)
 wordsFrom line at = pick (leb at (length line)) (words (drop at line)) []
 
--- a line without the carriage return, 13, that belongs to its newline
-unfoldable pub bare : List ℕ → List ℕ
-bare line = pick (eqb (getD line (length line - 1) 0) 13) (take (length line - 1) line) line
+-- a line without a byte that ends it: a newline, 10, or the carriage return, 13, that belongs to one
+unfoldable pub bare : ℕ → List ℕ → List ℕ
+bare end line = pick (eqb (getD line (length line - 1) 0) end) (take (length line - 1) line) line

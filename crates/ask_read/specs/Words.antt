@@ -55,7 +55,7 @@ real x = record { number = 0; double = x; good = true }
 abbrev pub bad : Field
 bad = record { number = 0; double = nought; good = false }
 
--- ---- a number: decimal, 0..4294967295, no sign, no leading zero; ten digits hold them all (proofs/Longest)
+-- ---- a number: decimal, 0..4294967295, no sign, no leading zero; ten digits hold them all (proofs/Numerals)
 
 unfoldable pub numberFrom : Digits → Field
 numberFrom d = pick (d .good && ltb (d .value) 4294967296) (numeric (d .value)) bad

@@ -5,7 +5,7 @@ ghost use lib.ListN.{length, getD, take};
 ghost use lib.Dec.{eqb};
 ghost use lib.Ieee.{binary64, ofBits};
 ghost use Rattle.ask_read.specs.Words.{digitOf, withDigit, spelt, plain, bad, numberFrom, numberField, decimalFrom, unsignedField, negated, decimalField, bitsOf, doubleField, same, flagField};
-ghost use Rattle.ask_read.specs.Questions.{rows, rowOf, rowAt, fieldOf, blank, unreadable, firstField, others, filled, filledBy, questionOf, wordsFrom, bare};
+ghost use Rattle.ask_read.specs.Questions.{rows, rowOf, rowAt, fieldOf, blank, unreadable, firstField, others, filled, filledBy, questionOf, settleOf, wordsFrom, bare};
 
 // What a word says: a number or a flag, a double, and whether it says anything; zeros elsewhere.
 pub struct Field {
@@ -452,13 +452,20 @@ pub fn read_question(line: &[u8]) -> Question
     fill_row(row, line, end + 1)
 }
 
-// How many bytes a line has without the carriage return that belongs to its newline.
-pub fn without_return(line: &[u8]) -> usize
-    ensures { λ r. ⌜ (r ≤ length (now (line .entry))) × (take r (now (line .entry)) ≡ bare (now (line .entry))) ⌝ }
+// A line of the fields of `settle` alone, without its name.
+pub fn read_settle(line: &[u8]) -> Question
+    ensures { λ r. ⌜ r ≡ settleOf (now (line .entry)) ⌝ }
+{
+    fill_row(6, line, 0)
+}
+
+// How many bytes a line has without a byte that ends it: a newline, or the carriage return that belongs to one.
+pub fn without_end(line: &[u8], end: u8) -> usize
+    ensures { λ r. ⌜ (r ≤ length (now (line .entry))) × (take r (now (line .entry)) ≡ bare end (now (line .entry))) ⌝ }
 {
     let len = line.len();
     if 0 < len {
-        if line[len - 1] == b'\r' {
+        if line[len - 1] == end {
             return len - 1;
         }
     }

@@ -12,10 +12,12 @@ use Rattle.vec2d.specs.Rounding.{tooFar, quantizedOf, stepsOf, foldOf, nearestO
 use Rattle.boundary.specs.Corners.{throughApertures, cornerOf, sixCorners}
 use Rattle.text.specs.Numbers.{digitsTo, decimal, field}
 use Rattle.walk_lines.specs.Lines.{placeFields, placeLine, restLine, refusedLine}
-use Rattle.walk_question.specs.Cursor.{withDigit, numberAt, spacedAt, lastAt, kindAt, ofFields, readingOf}
+use Rattle.ask_read.specs.Words.{digitOf, withDigit, spelt, plain, numberFrom, numberField, same, flagField}
+use Rattle.ask_read.specs.Questions.{words, rowAt, fieldOf, filled, readable, bare}
+use Rattle.walk_question.specs.Fields.{ofNumbers, readingOf}
 use Rattle.walk.specs.Texts.{pathFrom, path, questionText}
 use Rattle.checked.specs.Starred.{Case, said, starred}
 
 pub starred-right : map (λ (c : Case). said (c .asked)) starred ≡ map (λ (c : Case). c .given) starred
-unfolding unitOf limitOf reduced Q mapOf turnsOf moveOver stepOf aboutCorner stepOut crossingOf settleFrom throughApertures cornerOf sixCorners isPoint tooFar nearestOf quantizedOf stepsOf foldOf digitsTo decimal field placeFields placeLine restLine refusedLine withDigit numberAt spacedAt lastAt kindAt ofFields readingOf pathFrom path questionText round add sub mul div lt le ofBits ofInt toUnsigned
+unfolding unitOf limitOf reduced Q mapOf turnsOf moveOver stepOf aboutCorner stepOut crossingOf settleFrom throughApertures cornerOf sixCorners isPoint tooFar nearestOf quantizedOf stepsOf foldOf digitsTo decimal field placeFields placeLine restLine refusedLine digitOf withDigit spelt plain numberFrom numberField same flagField words rowAt fieldOf filled readable bare ofNumbers readingOf pathFrom path questionText round add sub mul div lt le ofBits ofInt toUnsigned
 starred-right = refl

@@ -45,7 +45,7 @@ pub longer : (n : ℕ) → 10 ≤ n → length (decimal n) ≡ length (decimal (
 longer n h = ap length (large n h) ∙ length-append (decimal (n / 10)) (digit (n % 10) ∷ [])
 
 -- a number below 10^(k+1) has at most k + 1 digits
-short : (k n : ℕ) → n < 10 ^ suc k → length (decimal n) ≤ suc k
+pub short : (k n : ℕ) → n < 10 ^ suc k → length (decimal n) ≤ suc k
 short zero n h = let e = ap length (small n (omega arith)) in omega arith
 short (suc k) n h =
     elim (decLt n 10) [

@@ -21,7 +21,7 @@ use Rattle.walk_lines.specs.Lines.{placeLine, fromWord, overWord, restLine, ref
 use Rattle.walk_question.specs.declared.Question.{Question}
 use Rattle.walk_question.specs.declared.Reading.{Reading}
 use Rattle.walk_question.specs.Reading.{Read}
-use Rattle.walk_question.specs.Cursor.{readingOf}
+use Rattle.walk_question.specs.Fields.{readingOf}
 use Rattle.walk.specs.declared.Walk.{Walk}
 use Rattle.walk.specs.declared.State.{State}
 use Rattle.walk.specs.declared.Step.{Step}

@@ -1,6 +1,3 @@
 -- Laws of `walk_question`: a line is read as what it asks, and how much of it decides.
-pub mod Fields
-pub mod Numbers
-pub mod FieldTexts
+pub mod Ending
 pub mod Asking
-pub mod Longest

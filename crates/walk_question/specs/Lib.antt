@@ -1,3 +1,3 @@
 -- Definitions of `walk_question`: the line that asks for a walk.
 pub mod Reading
-pub mod Cursor
+pub mod Fields

@@ -8,23 +8,23 @@ use Rattle.ask_main.proofs.end_line.Statement.{statement}
 use Rattle.ask_main.proofs.end_line.Tie as tie
 
 slice-aggregate-answer : tie.Need-slice-aggregate-answer
-slice-aggregate-answer c = let w = c .before .without-return in sym (length-take-le (w .result) _ (w .ensures .0))
+slice-aggregate-answer c = let w = c .before .without-end in sym (length-take-le (w .result) _ (w .ensures .0))
 
-slice-aggregate-without-return : tie.Need-slice-aggregate-without-return
-slice-aggregate-without-return c = let k = c .before .before .before .keep in sym (length-take-le (k .result .line) (k .last .0) (omega (arith, k .ensures .0, k .kept)))
+slice-aggregate-without-end : tie.Need-slice-aggregate-without-end
+slice-aggregate-without-end c = let k = c .before .before .before .keep in sym (length-take-le (k .result .line) (k .last .0) (omega (arith, k .ensures .0, k .kept)))
 
 slice-reshare-prefix-answer : tie.Need-slice-reshare-prefix-answer
-slice-reshare-prefix-answer c = let k = c .before .before .before .before .keep in omega (arith, c .without-return2 .ensures .0, length-take (k .result .line) (k .last .0))
+slice-reshare-prefix-answer c = let k = c .before .before .before .before .keep in omega (arith, c .without-end2 .ensures .0, length-take (k .result .line) (k .last .0))
 
 slice-aggregate-answer-2 : tie.Need-slice-aggregate-answer-2
 slice-aggregate-answer-2 c =
     let k = c .before .before .before .before .before .keep in
-    let w = c .before .without-return2 in
+    let w = c .before .without-end2 in
     sym (length-take-le (w .result) (k .last .0) (omega (arith, w .ensures .0, length-take (k .result .line) (k .last .0))))
 
 pub end-line-spec : {M : Type 1} → statement M
 end-line-spec =
     tie.close
     (tie.spec (λ c κs. search needs) slice-aggregate-answer (λ c κs. search needs) (λ c. search needs) (λ c. search needs) (λ c
-    κs. search needs) (λ c. search needs) slice-aggregate-without-return (λ c κs. search needs) slice-reshare-prefix-answer
+    κs. search needs) (λ c. search needs) slice-aggregate-without-end (λ c κs. search needs) slice-reshare-prefix-answer
     slice-aggregate-answer-2 (λ c κs. search needs) (λ c. search needs) (λ c. search needs) (λ c. search needs))

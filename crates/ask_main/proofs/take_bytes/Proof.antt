@@ -4,7 +4,7 @@ use Prim.Native.Nat.{_-_, _≤_, _<_}
 use native.Mathlib.Omega.{arith}
 use lib.ListN.{length}
 use borrow.Author.Tests.{ltb-true}
-use Rattle.ask_read.proofs.Spelling.{both}
+use Rattle.reply.proofs.Entries.{both}
 use borrow.Author.Needs.{needs}
 use Rattle.ask_main.proofs.take_bytes.Statement.{statement}
 use Rattle.ask_main.proofs.take_bytes.Tie as tie

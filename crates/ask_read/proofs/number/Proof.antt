@@ -4,7 +4,7 @@ use borrow.Author.Tests.{ltb-true}
 use lib.Dec.{ltb, lit≤}
 use lib.ListN.{length}
 use Rattle.ask_read.specs.Words.{numberField}
-use Rattle.ask_read.proofs.Spelling.{both}
+use Rattle.reply.proofs.Entries.{both}
 use Rattle.ask_read.proofs.Decimals.{at-most, widen}
 use borrow.Author.Needs.{needs}
 use Rattle.ask_read.proofs.number.Statement.{statement}

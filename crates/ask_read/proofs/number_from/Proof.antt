@@ -4,7 +4,7 @@ use native.Mathlib.Omega.{arith}
 use borrow.Author.Tests.{ltb-true}
 use lib.Dec.{ltb}
 use Rattle.ask_read.specs.Words.{numberFrom}
-use Rattle.ask_read.proofs.Spelling.{both}
+use Rattle.reply.proofs.Entries.{both}
 use Rattle.ask_read.proofs.number_from.Statement.{statement}
 use Rattle.ask_read.proofs.number_from.Tie as tie
 
