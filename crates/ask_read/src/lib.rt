@@ -4,7 +4,7 @@ ghost use Prim.Native.Nat.{_+_, _*_, _^_, _≤_, _<_};
 ghost use lib.ListN.{length, getD, take};
 ghost use lib.Dec.{eqb};
 ghost use lib.Ieee.{binary64, ofBits};
-ghost use Rattle.ask_read.specs.Words.{digitOf, withDigit, spelt, plain, bad, numberFrom, numberField, decimalFrom, unsignedField, negated, decimalField, bitsOf, doubleField, same, flagField};
+ghost use Rattle.ask_read.specs.Words.{digitOf, withDigit, spelt, plain, numeric, real, bad, numberFrom, numberField, decimalFrom, unsignedField, negated, decimalField, bitsOf, doubleField, same, flagField};
 ghost use Rattle.ask_read.specs.Questions.{rows, rowOf, rowAt, fieldOf, blank, unreadable, firstField, others, filled, filledBy, questionOf, settleOf, wordsFrom, bare};
 
 // What a word says: a number or a flag, a double, and whether it says anything; zeros elsewhere.
@@ -75,6 +75,26 @@ fn is_plain(s: &[u8]) -> bool
     s[0] != b'0'
 }
 
+fn numeric(number: u32) -> Field
+    ensures { λ r. ⌜ r ≡ numeric number ⌝ }
+{
+    Field {
+        number,
+        double: 0.0,
+        good: true,
+    }
+}
+
+fn real(double: f64) -> Field
+    ensures { λ r. ⌜ r ≡ real double ⌝ }
+{
+    Field {
+        number: 0,
+        double,
+        good: true,
+    }
+}
+
 fn not_good() -> Field
     ensures { λ r. ⌜ r ≡ bad ⌝ }
 {
@@ -89,11 +109,7 @@ fn number_from(d: Digits) -> Field
     ensures { λ r. ⌜ r ≡ numberFrom d ⌝ }
 {
     if d.good & (d.value < 4294967296) {
-        return Field {
-            number: d.value as u32,
-            double: 0.0,
-            good: true,
-        };
+        return numeric(d.value as u32);
     }
     not_good()
 }
@@ -134,11 +150,7 @@ fn decimal_from(d: Digits, k: usize) -> Field
     let value = d.value;
     let scale = tens(k);
     if d.good {
-        return Field {
-            number: 0,
-            double: (value as f64) / (scale as f64),
-            good: true,
-        };
+        return real((value as f64) / (scale as f64));
     }
     not_good()
 }
@@ -186,11 +198,7 @@ fn negated(f: Field) -> Field
     ensures { λ r. ⌜ r ≡ negated f ⌝ }
 {
     if f.good {
-        return Field {
-            number: 0,
-            double: -f.double,
-            good: true,
-        };
+        return real(-f.double);
     }
     not_good()
 }
@@ -237,11 +245,7 @@ fn double(s: &[u8]) -> Field
     let pattern = bits(s);
     if pattern.good {
         let x = of_bits(pattern.value);
-        return Field {
-            number: 0,
-            double: x,
-            good: true,
-        };
+        return real(x);
     }
     decimal(s)
 }
@@ -268,18 +272,10 @@ fn flag(s: &[u8], no: &[u8], yes: &[u8]) -> Field
     ensures { λ r. ⌜ r ≡ flagField (now (no .entry)) (now (yes .entry)) (now (s .entry)) ⌝ }
 {
     if is_same(s, no) {
-        return Field {
-            number: 0,
-            double: 0.0,
-            good: true,
-        };
+        return numeric(0);
     }
     if is_same(s, yes) {
-        return Field {
-            number: 1,
-            double: 0.0,
-            good: true,
-        };
+        return numeric(1);
     }
     not_good()
 }
@@ -346,12 +342,10 @@ fn take_field(kind: u8, line: &[u8], at: usize) -> Taken
 {
     let len = line.len();
     if len < at {
-        let field = Field {
-            number: 0,
-            double: 0.0,
-            good: false,
+        return Taken {
+            field: not_good(),
+            next: at,
         };
-        return Taken { field, next: at };
     }
     let end = bytes::scan::find(line, at, len, b' ');
     let field = field_of(kind, &line[at..end]);

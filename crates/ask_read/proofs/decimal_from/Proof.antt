@@ -5,19 +5,20 @@ use borrow.Author.Needs.{needs}
 use Rattle.ask_read.proofs.decimal_from.Statement.{statement}
 use Rattle.ask_read.proofs.decimal_from.Tie as tie
 
-int-to-float-t6 : tie.Need-int-to-float-t6
-int-to-float-t6 c = let s = c .before .before .before in digits-number (s .args .d .value) (s .pre .0)
+int-to-float-real : tie.Need-int-to-float-real
+int-to-float-real c = let s = c .before .before .before in digits-number (s .args .d .value) (s .pre .0)
 
-int-to-float-t7 : tie.Need-int-to-float-t7
-int-to-float-t7 c =
+int-to-float-real-2 : tie.Need-int-to-float-real-2
+int-to-float-real-2 c =
     let t = c .before .before .before in
     power-number (t .before .args .k) (t .tens .result) (t .before .pre .1) (t .tens .ensures)
 
 returns : tie.Need-returns
 returns c =
-    let t = c .before .before .before in
+    let t = c .before .before .before .before in
     let s = t .before in
-    taken (s .args .d) (s .args .k) (t .tens .result) (s .pre .0) (s .pre .1) (t .tens .ensures) (c .before .before .if1 .taken)
+    c .real .ensures ∙
+    taken (s .args .d) (s .args .k) (t .tens .result) (s .pre .0) (s .pre .1) (t .tens .ensures) (c .before .before .before .if1 .taken)
 
 returns-2 : tie.Need-returns-2
 returns-2 c = let s = c .before .before .before in c .not-good .ensures ∙ left (s .args .d) (s .args .k) (c .before .if1 .left)
@@ -25,4 +26,5 @@ returns-2 c = let s = c .before .before .before in c .not-good .ensures ∙ left
 pub decimal-from-spec : {M : Type 1} → statement M
 decimal-from-spec =
     tie.close
-    (tie.spec (λ c κs. search needs) int-to-float-t6 int-to-float-t7 returns (λ c κs. search needs) returns-2)
+    (tie.spec (λ c κs. search needs) int-to-float-real int-to-float-real-2 (λ c κs. search needs) returns (λ c κs. search needs)
+    returns-2)

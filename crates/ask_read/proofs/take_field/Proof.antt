@@ -7,9 +7,9 @@ use Rattle.ask_read.proofs.take_field.Tie as tie
 
 returns : tie.Need-returns
 returns c =
-    let a = c .before .before .args in
-    let e = no-word (a .line .now) (a .at) (c .if1 .taken) in
-    (rw e, rw e, c .before .before .pre)
+    let a = c .before .before .before .args in
+    let e = no-word (a .line .now) (a .at) (c .before .if1 .taken) in
+    (rw e (c .not-good .ensures), rw e, c .before .before .before .pre)
 
 returns-2 : tie.Need-returns-2
 returns-2 c =
@@ -21,5 +21,5 @@ returns-2 c =
 pub take-field-spec : {M : Type 1} → statement M
 take-field-spec =
     tie.close
-    (tie.spec returns (λ c κs. search needs) (λ c. search needs) (λ c. search needs) (λ c. search needs) (λ c κs. search needs) (λ
-    c. search needs) returns-2)
+    (tie.spec (λ c κs. search needs) returns (λ c κs. search needs) (λ c. search needs) (λ c. search needs) (λ c. search needs) (λ
+    c κs. search needs) (λ c. search needs) returns-2)
