@@ -85,10 +85,10 @@ line-is q bs a =
 abbrev Own : List (List ℕ) → Type 0
 Own ws = ws ≡ wordsOf (questionOf (filledBy (rowAt 6) ws .numbers))
 
-own : (f l s i j k : List ℕ) → numberField f .good ≡ true → numberField l .good ≡ true → kind s .good ≡ true → numberField i .good ≡ true → numberField j .good ≡ true → numberField k .good ≡ true → Own (f ∷ l ∷ s ∷ i ∷ j ∷ k ∷ [])
+own : (ws : List (List ℕ)) (f l s i j k : List ℕ) → ws ≡ f ∷ l ∷ s ∷ i ∷ j ∷ k ∷ [] → numberField f .good ≡ true → numberField l .good ≡ true → kind s .good ≡ true → numberField i .good ≡ true → numberField j .good ≡ true → numberField k .good ≡ true → Own ws
 unfolding rowAt fieldOf filled
-own f l s i j k gf gl gs gi gj gk =
-    rw (gf, gl, gs, gi, gj, gk) (λ d. number-is f gf d ∷ number-is l gl d ∷ kind-is s gs d ∷ number-is i gi d ∷ number-is j gj d ∷ number-is k gk d ∷ [])
+own ws f l s i j k e gf gl gs gi gj gk =
+    rw (e, gf, gl, gs, gi, gj, gk) (λ d. number-is f gf d ∷ number-is l gl d ∷ kind-is s gs d ∷ number-is i gi d ∷ number-is j gj d ∷ number-is k gk d ∷ [])
 
 words-are : (ws : List (List ℕ)) → readable (rowAt 6 .kinds) ws ≡ true → Own ws
 unfolding rowAt fieldOf
@@ -101,7 +101,7 @@ words-are ws e =
     let k = first 110 [] (j .more) (j .on) in
     let none = no-more (k .more) (k .on) in
     let is : ws ≡ f .word ∷ l .word ∷ s .word ∷ i .word ∷ j .word ∷ k .word ∷ [] = rw (← none, ← (k .is), ← (j .is), ← (i .is), ← (s .is), ← (l .is)) (f .is) in
-    subst Own (sym is) (own (f .word) (l .word) (s .word) (i .word) (j .word) (k .word) (f .good) (l .good) (s .good) (i .good) (j .good) (k .good))
+    own ws (f .word) (l .word) (s .word) (i .word) (j .word) (k .word) is (f .good) (l .good) (s .good) (i .good) (j .good) (k .good)
 
 -- a number of few digits, as a field
 few : (k n top : ℕ) → 10 ^ k ≡ top → top ≤ 10000 → length (decimal n) ≤ k → (numberField (decimal n) ≡ numeric n) × (ltb n top ≡ true)

@@ -1,12 +1,12 @@
 -- The newline at the end of a line: one is dropped, and a line that ends otherwise stays. Assumes nothing.
-use mathlib.Core.Path.{_≡_, refl, sym, ap, _∙_}
+use mathlib.Core.Path.{_≡_, refl, sym, _∙_}
 use mathlib.Core.Bool.{Bool, true, false}
 use mathlib.Core.List.{List, [], _∷_, _++_, append-assoc, append-nil}
-use Prim.Native.Nat.{ℕ, suc, _-_, _/_, _%_, _≤_}
+use Prim.Native.Nat.{ℕ, suc, _-_, _/_, _%_}
 use native.Mathlib.Decide.{decLt}
 use native.Mathlib.Omega.{arith}
 use lib.Dec.{eqb}
-use lib.ListN.{length, getD, take, drop, length-append, drop-of-length-le}
+use lib.ListN.{length, getD, take, length-append, drop-of-length-le}
 use lib.Seq.{split-at, take-append-seam, getD-append-seam}
 use borrow.Author.Tests.{eqb-true, ne-eqb}
 use Rattle.reply.specs.Choice.{pick}
