@@ -8,7 +8,7 @@ use lib.Ieee.{binary64, toBits}
 use lib.ListN.{length, drop, length-append, length-replicate, replicate, drop-of-length-le}
 use Rattle.reply.specs.declared.Verdict.{Verdict}
 use Rattle.reply.specs.declared.Verdict.the-variants.{Fine, Refused}
-use Rattle.reply.specs.Replies.{Reply, answer, reply, first, when, zeros}
+use Rattle.reply.specs.Replies.{answer, reply, first, when, zeros}
 use Rattle.lent.specs.Lent.{held}
 use Rattle.lent_borders.specs.Borders.{marksIn, pointsIn, marksOf, pointsOf}
 use Rattle.faceijk.specs.declared.Place.{Place}

@@ -6,7 +6,8 @@ use Prim.Native.String.{String}
 use lib.ListN.{replicate}
 use lib.Ieee.{Float, binary64, ofBits, round, neg}
 use Rattle.bytes.specs.Bytes.{indexOf}
-use Rattle.ask_read.specs.Words.{nought, digitOf, withDigit, spelt, plain, numberFrom, numberField, decimalFrom, unsignedField, decimalField, bitsOf, doubleField, same, flagField}
+use Rattle.double.specs.Double.{nought}
+use Rattle.ask_read.specs.Words.{digitOf, withDigit, spelt, plain, numberFrom, numberField, decimalFrom, unsignedField, decimalField, bitsOf, doubleField, same, flagField}
 use Rattle.ask_read.specs.declared.Asked.the-variants.{Round, Cross, Help}
 use Rattle.ask_read.specs.declared.Question.{Question}
 use Rattle.reply.specs.Text.{text}

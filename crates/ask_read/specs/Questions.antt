@@ -9,7 +9,8 @@ use lib.Ieee.{Float}
 use Rattle.reply.specs.Choice.{pick}
 use Rattle.reply.specs.Text.{text}
 use Rattle.ask_read.specs.declared.Field.{Field}
-use Rattle.ask_read.specs.Words.{nought, bad, numberField, doubleField, same, flagField}
+use Rattle.double.specs.Double.{nought}
+use Rattle.ask_read.specs.Words.{bad, numberField, doubleField, same, flagField}
 use Rattle.ask_read.specs.declared.Asked.{Asked}
 use Rattle.ask_read.specs.declared.Asked.the-variants.{Round, Centre, Meet, Turn, Step, Cross, Settle, Direction, Same, Nearest, Place, Corners, Hexagon, Pentagon, Help, Unreadable}
 use Rattle.ask_read.specs.declared.Question.{Question}

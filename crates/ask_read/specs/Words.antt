@@ -6,6 +6,7 @@ use lib.Dec.{ltb, eqb}
 use lib.ListN.{length, getD, take, drop}
 use lib.Ieee.{Float, binary64, ofBits, round, neg}
 use Rattle.reply.specs.Choice.{pick}
+use Rattle.double.specs.Double.{nought}
 use Rattle.bytes.specs.Bytes.{indexOf}
 use Rattle.ask_read.specs.declared.Digits.{Digits}
 use Rattle.ask_read.specs.declared.Field.{Field}
@@ -41,9 +42,6 @@ unfoldable pub plain : List ℕ → Bool
 plain w = pick (ltb (length w) 2) (eqb (length w) 1) (not (eqb (getD w 0 0) 48))
 
 -- ---- fields
-
-abbrev pub nought : Float
-nought = ofBits binary64 0
 
 abbrev pub numeric : ℕ → Field
 numeric n = record { number = n; double = nought; good = true }
