@@ -21,7 +21,6 @@ use Rattle.faceijk.specs.Steps.{stepOf}
 use Rattle.faceijk.specs.Crossing.{crossingOf, settleFrom}
 use Rattle.faceijk.specs.Entries.{turnMap, turnReply, badEdge, stepReply, landedValues, crossReply, restedValues, settleReply, directionReply, sameVerdict, samePlace, sameReply}
 use Rattle.vec2d.specs.declared.Vec2d.{Vec2d}
-use Rattle.vec2d.specs.declared.Line.{Line}
 use Rattle.vec2d.specs.Rounding.{roundVerdict, nearestOf, roundReply}
 use Rattle.vec2d.specs.Centre.{centreOf, centreReply}
 use Rattle.vec2d.specs.Meeting.{meetVerdict, meetReply}

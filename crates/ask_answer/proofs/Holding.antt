@@ -2,7 +2,7 @@
 use mathlib.Core.Path.{_≡_, refl, sym, ap, _∙_}
 use mathlib.Core.Bool.{Bool, true, false}
 use mathlib.Core.List.{List, [], _∷_, _++_}
-use Prim.Native.Nat.{ℕ, zero, suc, _-_, _≤_, _<_}
+use Prim.Native.Nat.{ℕ, zero, suc, _-_, _≤_}
 use native.Mathlib.Nat.{suc-inj}
 use native.Mathlib.Omega.{arith}
 use lib.Dec.{eqb}
@@ -14,7 +14,7 @@ use Rattle.reply.specs.declared.Refusal.{Refusal}
 use Rattle.reply.specs.declared.Refusal.the-variants.{BadFrame}
 use Rattle.reply.specs.declared.Verdict.{Verdict}
 use Rattle.reply.specs.declared.Verdict.the-variants.{Fine, Refused}
-use Rattle.reply.specs.Replies.{numberOf, Reply, answer, refusal, reply, zeros}
+use Rattle.reply.specs.Replies.{numberOf, refusal, reply, zeros}
 use Rattle.reply.proofs.Numbers.{number-pos}
 use Rattle.lent.specs.Lent.{held, Gives}
 use Rattle.ask_read.specs.declared.Asked.{Asked}

@@ -1,6 +1,5 @@
 // The answer to a question of the desk tool: each question goes to the C face, with its arguments from the question's fields.
 ghost use mathlib.Core.Path.{_≡_};
-ghost use lib.ListN.{length, replicate};
 ghost use Rattle.reply.specs.Replies.{zeros};
 ghost use Rattle.lent.specs.Lent.{bitsOf};
 ghost use Rattle.ask_answer.specs.Answers.{replyTo, numberAt, flagAt, placeAt, Holds, Says};

@@ -1,6 +1,6 @@
 -- Numbers in decimal: ten digits hold every number up to 4294967295, and a number as a field is the decimal of its number: no sign, no leading zero, nothing else. Assumes nothing.
 use mathlib.Core.Path.{_≡_, refl, sym, ap, _∙_}
-use mathlib.Core.Bool.{Bool, true, false, false≢true, _&&_, not}
+use mathlib.Core.Bool.{Bool, true, false, false≢true, _&&_}
 use mathlib.Core.List.{List, [], _∷_, _++_, append-assoc, append-nil}
 use Prim.Native.Nat.{ℕ, suc, _+_, _-_, _*_, _^_, _≤_, zero, _/_, _%_, _<_}
 use native.Mathlib.Nat.{le-trans, le-of-eq, mul-assoc, mul-comm, mul-one, mul-le-mul-right, one-mul, pow-suc, pow-le-pow-right, not-suc-le-zero, one-le-pow}

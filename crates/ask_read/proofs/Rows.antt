@@ -1,15 +1,14 @@
 -- The two tables as the code has them, names in nine bytes and kinds in eight, are those of the rows: one computed test each. Assumes nothing.
 use mathlib.Core.Path.{_≡_, refl, sym, ap, _∙_}
-use mathlib.Core.Bool.{Bool, true, false, false≢true, _&&_}
+use mathlib.Core.Bool.{Bool, true, false, false≢true}
 use mathlib.Core.List.{List, [], _∷_}
-use Prim.Native.Nat.{ℕ, zero, suc, _+_, _-_, _*_, _≤_, _<_}
+use Prim.Native.Nat.{ℕ, suc, _+_, _-_, _*_, _≤_, _<_}
 use native.Mathlib.Numerals.{add-one}
 use native.Mathlib.Omega.{arith}
 use lib.Dec.{T, eqb}
-use lib.ListN.{length, getD, take, drop, drop-of-length-le, length-take, List·getD-eq-default}
+use lib.ListN.{length, take, drop, drop-of-length-le, length-take, List·getD-eq-default}
 use lib.Seq.{drop-cons}
 use borrow.Author.Tests.{eqb-true}
-use Rattle.reply.specs.Choice.{pick}
 use Rattle.reply.specs.Text.{text}
 use Rattle.bytes.specs.Bytes.{indexOf, slice}
 use Rattle.level.proofs.Computed.{all, at}

@@ -342,10 +342,8 @@ fn take_field(kind: u8, line: &[u8], at: usize) -> Taken
 {
     let len = line.len();
     if len < at {
-        return Taken {
-            field: not_good(),
-            next: at,
-        };
+        let field = not_good();
+        return Taken { field, next: at };
     }
     let end = bytes::scan::find(line, at, len, b' ');
     let field = field_of(kind, &line[at..end]);

@@ -12,7 +12,7 @@ use lib.Ieee.{Float, nan, inf, fin, binary64, up, down, mul, le, ofBits}
 use lib.Ieee.Fits.{down-pos}
 use Rattle.reply.specs.Choice.{pick}
 use Rattle.level.proofs.Computed.{at}
-use Rattle.double.specs.Double.{finite, sizeOf, limit, twoAndHalf, sin60}
+use Rattle.double.specs.Double.{sizeOf, limit, twoAndHalf, sin60}
 use Rattle.double.specs.Sizes.{Under}
 use Rattle.double.proofs.Sizes.{under-le, whole-under, mul-under}
 use Rattle.double.proofs.Over.{exact-20}

@@ -1,7 +1,7 @@
 -- How far a unit vector reaches: the sizes of its three parts sum to at most 1816190 units of 2^-20, a little more than the square root of 3.
 -- Assumes nothing.
 use mathlib.Core.Path.{_≡_, refl, sym, ap, _∙_}
-use mathlib.Core.Bool.{true, false, not}
+use mathlib.Core.Bool.{true, false}
 use Prim.Native.Nat.{ℕ, _+_, _*_, _/_, _^_, _≤_}
 use native.Mathlib.Nat.{le-refl, le-trans, le-of-eq, le-of-lt, mul-le-mul, mul-le-mul-right, mul-right-comm, add-mul, div-mul-le-self, lt-div-mul-add, le-of-mul-le-mul-right, lt-irrefl}
 use native.Mathlib.Decide.{decLe}

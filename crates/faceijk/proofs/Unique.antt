@@ -1,11 +1,11 @@
 -- Two outcomes of an entry on places that meet one promise coincide, what a caller learns of an answer, and that the smallest refusal is given. Assumes nothing.
 use mathlib.Core.Path.{_≡_, refl, sym, ap, _∙_}
 use mathlib.Core.Bool.{Bool}
-use mathlib.Core.List.{List, [], _∷_}
+use mathlib.Core.List.{[], _∷_}
 use Prim.Native.Nat.{ℕ, zero, suc}
 use native.Mathlib.Omega.{arith}
 use Rattle.reply.specs.declared.Verdict.the-variants.{Fine}
-use Rattle.reply.specs.Replies.{Reply, answer}
+use Rattle.reply.specs.Replies.{answer}
 use Rattle.reply.specs.Order.{Smallest}
 use Rattle.reply.proofs.Entries.{values, answer-or-refusal, same-refusal, answered}
 use Rattle.reply.proofs.Smallest.{smallest}

@@ -1,6 +1,6 @@
 -- "If several apply, the smallest number is given", said of a list of reasons in any order.
 use mathlib.Core.Path.{_≡_}
-use mathlib.Core.Bool.{Bool, true, false}
+use mathlib.Core.Bool.{true, false}
 use mathlib.Core.List.{List, [], _∷_}
 use Prim.Native.Nat.{ℕ, _≤_}
 use Rattle.reply.specs.declared.Refusal.{Refusal}

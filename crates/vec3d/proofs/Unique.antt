@@ -4,7 +4,6 @@ use lib.Dec.{T}
 use lib.Ieee.{binary64, fits}
 use Rattle.reply.proofs.Entries.{values, answer-or-refusal, same-refusal}
 use Rattle.double.proofs.Sign.{same-bits}
-use Rattle.vec3d.specs.declared.Nearest.{Nearest}
 use Rattle.vec3d.specs.declared.NearestFace.{NearestFace}
 use Rattle.vec3d.specs.declared.NearestFace.the-variants.{Done, Refused}
 use Rattle.vec3d.specs.Nearest.{saidNearest}

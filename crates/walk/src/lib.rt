@@ -1,7 +1,7 @@
 // `walk`: a line that names a place, and the text of its settling, written into a lent buffer by as many whole lines as fit.
 ghost use mathlib.Core.Path.{_≡_};
 ghost use mathlib.Core.Bool.{false};
-ghost use Prim.Native.Nat.{_+_, _-_, _≤_, _<_};
+ghost use Prim.Native.Nat.{_-_, _≤_, _<_};
 ghost use lib.Dec.{ltb};
 ghost use lib.ListN.{length};
 ghost use Rattle.level.specs.Levels.{badGrid, limitOf};

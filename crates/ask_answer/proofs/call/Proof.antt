@@ -5,10 +5,8 @@ use Prim.Native.Nat.{ℕ}
 use lib.Dec.{lit≤}
 use lib.ListN.{length}
 use Rattle.reply.specs.declared.Refusal.the-variants.{BadLine}
-use Rattle.reply.specs.Replies.{zeros}
 use Rattle.vec2d.specs.Points.{pointAt}
 use Rattle.vec3d.specs.Frame.{vecAt}
-use Rattle.lent.specs.Lent.{bitsOf}
 use Rattle.ask_read.specs.declared.Asked.{Asked}
 use Rattle.ask_read.specs.declared.Asked.the-variants.{Round, Centre, Meet, Turn, Step, Cross, Settle, Direction, Same, Nearest, Place, Corners, Hexagon, Pentagon, Help, Unreadable}
 use Rattle.ask_answer.specs.Answers.{numberAt, flagAt, coordAt, placeAt, replyOf, replyTo, valuesIn, numbersIn, doublesIn, Holds}

@@ -1,10 +1,7 @@
 -- `take_bytes` meets its contract: what is kept stays within its buffers, and each turn ends a line. Assumes nothing.
-use mathlib.Core.Path.{_≡_, refl}
-use Prim.Native.Nat.{_-_, _≤_, _<_}
-use native.Mathlib.Omega.{arith}
+use mathlib.Core.Path.{_≡_}
+use Prim.Native.Nat.{_-_, _≤_}
 use lib.ListN.{length}
-use borrow.Author.Tests.{ltb-true}
-use Rattle.reply.proofs.Entries.{both}
 use borrow.Author.Needs.{needs}
 use Rattle.ask_main.proofs.take_bytes.Statement.{statement}
 use Rattle.ask_main.proofs.take_bytes.Tie as tie

@@ -1,5 +1,4 @@
 -- `without_end` meets its contract: the last byte decides, and an empty line has none. Assumes nothing.
-use mathlib.Core.Path.{refl}
 use native.Mathlib.Omega.{arith}
 use native.Mathlib.Nat.{le-refl}
 use lib.Seq.{take-length}

@@ -4,7 +4,7 @@ use mathlib.Core.List.{[], _∷_, _++_}
 use mathlib.Core.Path.{_∙_, sym, ap}
 use Prim.Native.Nat.{ℕ}
 use lib.ListN.{drop}
-use Rattle.faceijk.specs.Entries.{saidDirected, directionReply}
+use Rattle.faceijk.specs.Entries.{saidDirected}
 use Rattle.lent.proofs.Lent.{short, answers, refuses}
 use Rattle.lent_grid.proofs.direction.Statement.{statement}
 use Rattle.lent_grid.proofs.direction.Tie as tie
