@@ -52,7 +52,8 @@ enum heddleplume_refusal {
     HEDDLEPLUME_BEHIND = 8,        /* the vector lies behind the face's plane: the frame is no icosahedron */
     HEDDLEPLUME_TOO_FAR = 9,       /* a plane point with a part of 2^25 or more: the point lies on no face */
     HEDDLEPLUME_NOT_REDUCED = 10,  /* no coordinate is 0, or one is above 2^26: subtract the least from all three */
-    HEDDLEPLUME_OUT_OF_FACE = 11,  /* a border's centre lies outside its face: cross or settle it first */
+    HEDDLEPLUME_OUT_OF_FACE = 11,  /* a border's centre lies outside its face: at an even level settle it first, at an odd one it
+                                      has no border here */
     HEDDLEPLUME_NOT_ADJACENT = 12, /* a border runs over faces that are not neighbours: the centre is no pentagon's, or the pentagon is
                                       named on a face where it lies on the j or k axis: name it where it lies on the i axis */
     HEDDLEPLUME_NO_CROSSING = 13,  /* two lines do not meet */
