@@ -9,3 +9,6 @@ pub mod Squares
 pub mod Left
 pub mod Whole
 pub mod Once
+pub mod Finite
+pub mod Near
+pub mod Units

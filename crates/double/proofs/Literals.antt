@@ -2,11 +2,12 @@
 use mathlib.Core.Path.{_≡_, refl}
 use mathlib.Core.List.{List, [], _∷_}
 use lib.Ieee.{Float, round, ofBits}
-use Rattle.double.specs.Double.{decimal, nought, half, one, oneAndHalf, two, twoAndHalf, three, rsin60, sin60, limit, tolerance, sphereLow, sphereHigh}
+use Rattle.double.specs.Double.{decimal, nought, quarter, half, one, oneAndHalf, two, twoAndHalf, three, rsin60, sin60, limit, tolerance, sphereLow, sphereHigh}
 
 abbrev named : List Float
 named =
     nought
+    ∷ quarter
     ∷ half
     ∷ one
     ∷ oneAndHalf
@@ -24,6 +25,7 @@ named =
 abbrev decimals : List Float
 decimals =
     decimal 0 0
+    ∷ decimal 25 2
     ∷ decimal 5 1
     ∷ decimal 1 0
     ∷ decimal 15 1

@@ -26,7 +26,8 @@ finite-no-nan nan h = absurd (true≢false (sym h))
 finite-no-nan (inf s) h = tt
 finite-no-nan (fin s m e) h = tt
 
-fits-size : (s t : Bool) (m : ℕ) (e : ℤ) → T (fits binary64 (fin s m e)) → T (fits binary64 (fin t m e))
+-- The sign decides nothing about the format, and its bit is the highest.
+pub fits-size : (s t : Bool) (m : ℕ) (e : ℤ) → T (fits binary64 (fin s m e)) → T (fits binary64 (fin t m e))
 unfolding fits
 fits-size s t zero e h = h
 fits-size s t (suc m) e h = h
@@ -44,7 +45,7 @@ low-part t h = omega arith
 cut : (t : ℕ) → t < 2 ^ 63 → (2 ^ 63 + t) % 2 ^ 63 ≡ t
 cut t h = omega arith
 
-under-sign : (m : ℕ) (e : ℤ) → T (fits binary64 (fin false m e)) → toBits binary64 (fin false m e) < 2 ^ 63
+pub under-sign : (m : ℕ) (e : ℤ) → T (fits binary64 (fin false m e)) → toBits binary64 (fin false m e) < 2 ^ 63
 under-sign m e h = low-part _ (subst (λ (n : ℕ). n < 2 * 2 ^ 63) (sign-bit m e) (toBits-lt binary64 (fin true m e) (fits-size false true m e h)))
 
 size-pattern : (s : Bool) (m : ℕ) (e : ℤ) → T (fits binary64 (fin s m e)) → toBits binary64 (fin s m e) % 2 ^ 63 ≡ toBits binary64 (fin false m e)

@@ -16,6 +16,9 @@ minus n d = round binary64 true n (10 ^ d)
 abbrev pub nought : Float
 nought = ofBits binary64 0x0000_0000_0000_0000
 
+abbrev pub quarter : Float
+quarter = ofBits binary64 0x3fd0_0000_0000_0000
+
 abbrev pub half : Float
 half = ofBits binary64 0x3fe0_0000_0000_0000
 

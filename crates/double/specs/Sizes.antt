@@ -1,7 +1,7 @@
 -- How large a double is, by a whole number.
 use mathlib.Core.Path.{_≡_}
 use mathlib.Core.Bool.{true}
-use Prim.Native.Nat.{ℕ, _*_, _≤_}
+use Prim.Native.Nat.{ℕ, _*_, _/_, _^_, _≤_}
 use lib.Ieee.{Float}
 use lib.Ieee.Positive.{num, den}
 use Rattle.double.specs.Double.{finite, sizeOf}
@@ -15,3 +15,7 @@ pub record Under (n : ℕ) (x : Float) : Type 0 where
 pub record Upto (n : ℕ) (x : Float) : Type 0 where
   pub under : Under n x
   pub plus : sizeOf x ≡ x
+
+-- The smallest double above zero, 2^-1074, is the unit of all others: how many of them |x| is. A whole number for every double (proofs/Units)
+abbrev pub unitsOf : Float → ℕ
+unitsOf x = num x * 2 ^ 1074 / den x
