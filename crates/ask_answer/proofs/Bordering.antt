@@ -13,7 +13,7 @@ use Rattle.lent.specs.Lent.{held}
 use Rattle.lent_borders.specs.Borders.{marksIn, pointsIn, marksOf, pointsOf}
 use Rattle.faceijk.specs.declared.Place.{Place}
 use Rattle.boundary.specs.declared.BoundaryPoint.{BoundaryPoint}
-use Rattle.boundary.specs.Boundaries.{badRange, outOfFace, boundaryReasons, askedShape, verdictTo, turnsFor, boundaryVerdict, boundaryPoints, noPoint, padded, pointsValues, boundaryValues, boundaryReply}
+use Rattle.boundary.specs.Boundaries.{badRange, outOfFace, boundaryReasons, askedShape, verdictTo, turnsFor, boundaryVerdict, boundaryPoints, noPoint, roomWith, padded, pointsValues, boundaryValues, boundaryReply}
 use Rattle.reply.specs.declared.Refusal.the-variants.{OutOfFace}
 use Rattle.boundary.specs.Corners.{cellReasons}
 use Rattle.boundary.specs.AsWalked.{cellVerdict}
@@ -78,7 +78,7 @@ fine-border a count ps {ns = ns} {ds = ds} t l e f g =
 
 -- an entry whose tests found nothing gives at most twelve points, and has room for twelve
 twelve : (sides : ℕ) (p : Place) (l start n : ℕ) → sides ≤ 6 → boundaryVerdict sides p l start n ≡ Fine → length (padded (boundaryPoints sides p l start n)) ≡ 12
-unfolding boundaryVerdict padded
+unfolding boundaryVerdict roomWith
 twelve sides p l start n few e =
     let bad = badRange sides start n in
     let f = both-fine (first (boundaryReasons sides p l start n)) (verdictTo (askedShape sides p l start) (turnsFor sides n)) e .0 in

@@ -35,6 +35,10 @@ pub first-again : (s : Shape) → s .sides ≡ 5 → landAt s 5 ≡ landAt s 0
 unfolding landAt
 first-again s five = ap (λ (v : ℕ). landFrom (s .sides) (substrateOf (s .cell .level)) (cornerPlace (s .cell) v)) (rw five (omega arith))
 
+-- what has not five sides has six
+pub six : {s : Shape} → Solid s → (s .sides ≡ 5 → ⊥) → s .sides ≡ 6
+six f h = omega (arith, f .many, f .few)
+
 -- the corner of every turn is one of the sides
 pub vertex-low : (s : Shape) (k : ℕ) → Solid s → vertexOf s k < 6
 vertex-low s k f = omega (arith, mod-lt (s .start + k) {m = s .sides} (omega (arith, f .many)), f .few)

@@ -14,7 +14,7 @@ use Rattle.reply.specs.declared.Verdict.the-variants.{Fine, Refused}
 use Rattle.reply.specs.Replies.{first, refusal, reply}
 use Rattle.faceijk.specs.declared.Place.{Place}
 use Rattle.boundary.specs.declared.BoundaryPoint.{BoundaryPoint}
-use Rattle.boundary.specs.Boundaries.{pointsTo, crossingsTo, orElse, verdictTo, turnsFor, boundaryReasons, askedShape, boundaryVerdict, boundaryPoints, noPoint, padded, boundaryValues, boundaryReply}
+use Rattle.boundary.specs.Boundaries.{pointsTo, crossingsTo, orElse, verdictTo, turnsFor, boundaryReasons, askedShape, boundaryVerdict, boundaryPoints, roomWith, noPoint, padded, boundaryValues, boundaryReply}
 use Rattle.boundary.proofs.Counting.{count-is, full-count, points-fit}
 use Rattle.boundary.proofs.Verdicts.{turns-few}
 
@@ -23,9 +23,12 @@ pub refused-zeros : (sides : ℕ) (p : Place) (l start n : ℕ) (r : Refusal) �
 refused-zeros sides p l start n r e = ap (λ (v : Verdict). reply 49 v (boundaryValues (boundaryPoints sides p l start n))) e
 
 -- The points beyond the count are zero.
+pub room-after : {A : Type 0} (z : A) (ps : List A) → drop (length ps) (roomWith z ps) ≡ replicate (12 - length ps) z
+unfolding roomWith
+room-after z ps = drop-at ps (replicate (12 - length ps) z) (length ps) refl
+
 pub unused-zero : (ps : List BoundaryPoint) → drop (length ps) (padded ps) ≡ replicate (12 - length ps) noPoint
-unfolding padded
-unused-zero ps = drop-at ps (replicate (12 - length ps) noPoint) (length ps) refl
+unused-zero ps = room-after noPoint ps
 
 -- Length 0 gives an empty boundary, which only the tests can refuse.
 pub empty : (sides : ℕ) (p : Place) (l start : ℕ) → 0 < sides → (boundaryPoints sides p l start 0 ≡ []) × (boundaryVerdict sides p l start 0 ≡ orElse (first (boundaryReasons sides p l start 0)) Fine)

@@ -16,7 +16,7 @@ use Rattle.boundary.specs.declared.Before.{Before}
 use Rattle.boundary.specs.declared.Before.the-variants.{Nothing, Point, Refused}
 use Rattle.boundary.specs.Landing.{landAt}
 use Rattle.boundary.specs.CrossingPoints.{cornerPoint, beforeAt}
-use Rattle.boundary.specs.Boundaries.{pointsBefore, pointsTo, orElse, verdictBefore, verdictTo, padded}
+use Rattle.boundary.specs.Boundaries.{pointsBefore, pointsTo, orElse, verdictBefore, verdictTo, noPoint, padded}
 use Rattle.boundary.specs.AsWalked.{beforeFrom, boundaryOf}
 use Rattle.boundary.proofs.Landing.{lastAt}
 use Rattle.boundary.proofs.Padding.{put}
@@ -66,7 +66,7 @@ module _ (s : Shape) (points : List BoundaryPoint) (count : ℕ) (last : Landed)
       let few : length (pointsTo s k) < 12 = omega (arith, now .counted) in
       record {
         fine = verdict-next s k (Point p) (now .fine) e;
-        laid = (λ n. set (now .laid n) (now .counted n) p) ∙ (put (pointsTo s k) p few ∙ ap padded (sym m));
+        laid = (λ n. set (now .laid n) (now .counted n) p) ∙ (put noPoint (pointsTo s k) p few ∙ ap padded (sym m));
         counted = ap (λ (n : ℕ). n + 1) (now .counted) ∙ (sym (length-append (pointsTo s k) (p ∷ [])) ∙ ap length (sym m));
       }
 
@@ -91,7 +91,7 @@ module _ (s : Shape) (points : List BoundaryPoint) (count k : ℕ) (mid : Betwee
       let room : length (midPoints s k) < 12 = omega (arith, mid .counted, room-corner s points count k mid h few) in
       record {
         fine = mid .fine;
-        laid = (λ n. set (mid .laid n) (mid .counted n) p) ∙ (put (midPoints s k) p room ∙ ap padded n);
+        laid = (λ n. set (mid .laid n) (mid .counted n) p) ∙ (put noPoint (midPoints s k) p room ∙ ap padded n);
         counted = ap (λ (n : ℕ). n + 1) (mid .counted) ∙ (sym (length-append (midPoints s k) (p ∷ [])) ∙ ap length n);
         came = last-next s k land is;
       }

@@ -87,11 +87,14 @@ unfoldable pub boundaryPoints : ℕ → Place → ℕ → ℕ → ℕ → List B
 boundaryPoints sides p l start n = pointsTo (askedShape sides p l start) (turnsFor sides n)
 
 -- the record: a count and room for twelve points; unused points are zero
+unfoldable pub roomWith : {A : Type 0} → A → List A → List A
+roomWith unused ps = ps ++ replicate (12 - length ps) unused
+
 abbrev pub noPoint : BoundaryPoint
 noPoint = record { face = 0; x = nought; y = nought; mark = 0 }
 
-unfoldable pub padded : List BoundaryPoint → List BoundaryPoint
-padded ps = ps ++ replicate (12 - length ps) noPoint
+abbrev pub padded : List BoundaryPoint → List BoundaryPoint
+padded ps = roomWith noPoint ps
 
 abbrev pub pointValues : BoundaryPoint → List ℕ
 pointValues p = p .face ∷ toBits binary64 (p .x) ∷ toBits binary64 (p .y) ∷ p .mark ∷ []

@@ -87,14 +87,17 @@ isFaceEdge NewFace = false
 unfoldable pub awayFace : ℕ → ℕ → ℕ → ℕ
 awayFace home last now = pick (eqb last home) now last
 
-unfoldable pub hexagonCrossing : Cell → Landed → ℕ → ℕ → Before
-hexagonCrossing c last now v =
+abbrev pub edgeCrossing : Cell → ℕ → ℕ → Before
+edgeCrossing c away v =
     let home = c .centre .face in
     let a = centreOf (cornerOf (c .odd) (coordOf (c .centre)) ((v + 5) % 6)) in
     let b = centreOf (cornerOf (c .odd) (coordOf (c .centre)) v) in
+    unlessCorner a b (crossAt (c .m) home a b (dirTo home away))
+
+unfoldable pub hexagonCrossing : Cell → Landed → ℕ → ℕ → Before
+hexagonCrossing c last now v =
     pick (eqb (last .place .face) now) Nothing
-    (pick (isFaceEdge (last .overage)) Nothing
-    (unlessCorner a b (crossAt (c .m) home a b (dirTo home (awayFace home (last .place .face) now)))))
+    (pick (isFaceEdge (last .overage)) Nothing (edgeCrossing c (awayFace (c .centre .face) (last .place .face) now) v))
 
 -- pentagons: one between any two corners. The second is stepped over to the face of the first, and the edge is that back to its own
 unfoldable pub takenOver : Cell → Place → ℕ → Place → Before

@@ -17,7 +17,7 @@ ghost use Rattle.faceijk.specs.Crossing.{landed};
 ghost use Rattle.faceijk.specs.declared.Overage.the-variants.{None};
 ghost use Rattle.boundary.specs.Corners.{classIII, throughApertures, offsetOf, cornerOf, sixCorners, saidCorners, cornersReply};
 ghost use Rattle.boundary.specs.Landing.{cellOf, substrateOf, cornerPlace, vertexOf, landAt};
-ghost use Rattle.boundary.specs.CrossingPoints.{pointOn, cornerPoint, edgeLine, pointed, crossAt, unlessCorner, isFaceEdge, awayFace, hexagonCrossing, pentagonCrossing};
+ghost use Rattle.boundary.specs.CrossingPoints.{pointOn, cornerPoint, edgeLine, pointed, crossAt, unlessCorner, isFaceEdge, awayFace, edgeCrossing, hexagonCrossing, pentagonCrossing};
 ghost use Rattle.boundary.specs.Boundaries.{pointsTo, verdictTo, turnsFor, saidBoundary, boundaryReply};
 ghost use Rattle.boundary.specs.AsWalked.{digitOf, cellVerdict, rangeVerdict, Upto, beforeFrom, boundaryOf, withinOf, Solid, Fit, Deep};
 use coordijk::CoordIJK;
@@ -58,7 +58,7 @@ pub struct Boundary {
 }
 
 // A cell on its substrate grid: its centre there, the grid level, that grid, the limit m of the plain grid, and whether it is of Class III.
-struct Cell {
+pub struct Cell {
     pub centre: Place,
     pub level: GridLevel,
     pub grid: Grid,
@@ -67,14 +67,14 @@ struct Cell {
 }
 
 // What is walked round: a cell, how many sides it has, and the first corner.
-struct Shape {
+pub struct Shape {
     pub cell: Cell,
     pub sides: u32,
     pub start: u32,
 }
 
 // What stands before a corner.
-enum Before {
+pub enum Before {
     Nothing,
     Point(BoundaryPoint),
     Refused(Refusal),
@@ -91,7 +91,7 @@ fn range_verdict(centre: CoordIJK, bad_range: bool) -> Verdict
 }
 
 // The tests of an entry on a cell, in the order of their numbers.
-fn cell_verdict(centre: Place, level: CellLevel, bad_range: bool) -> Verdict
+pub fn cell_verdict(centre: Place, level: CellLevel, bad_range: bool) -> Verdict
     ensures { λ r. ⌜ r ≡ cellVerdict centre (level .0) «bad_range» ⌝ }
 {
     if Place::LAST_FACE < centre.face {
@@ -174,7 +174,7 @@ fn digits(i: u32, j: u32, k: u32, v: usize) -> CoordIJK
 
 impl Cell {
     // The cell of a centre at a cell level. The substrate grid is the plain grid threefold, so the level is looked up once.
-    fn made(centre: Place, level: CellLevel) -> Cell
+    pub fn made(centre: Place, level: CellLevel) -> Cell
         requires { ⌜ Taken (coordOf centre) × (level .0 ≤ 15) ⌝ }
         ensures { λ r. ⌜ r ≡ cellOf centre (level .0) ⌝ }
     {
@@ -343,7 +343,19 @@ fn away_face(home: u32, last: u32, now: u32) -> u32
 }
 
 impl Cell {
-    // The crossing point before the corner v of a hexagon, both corners taken on the centre's face.
+    // Where the line to the corner v from the one before it meets the edge to another face, both corners taken on the centre's face.
+    fn edge_crossing(self, away: u32, v: usize) -> Before
+        requires { ⌜ Upto 805306368 (coordOf (self .centre)) × (self .centre .face < 20) × (v < 6) ⌝ }
+        ensures { λ r. ⌜ r ≡ edgeCrossing self away v ⌝ }
+    {
+        let a = Vec2d::from_ijk(self.corner((v + 5) % 6));
+        let b = Vec2d::from_ijk(self.corner(v));
+        let home = self.centre.face;
+        let edge = edge_to(home, away);
+        cross_at(self.m, home, a, b, edge).unless_corner(a, b)
+    }
+
+    // The crossing point before the corner v of a hexagon. The tests stand apart from what they let through, so that they cost no call.
     fn hexagon_crossing(self, last: Landed, now: u32, v: usize) -> Before
         requires { ⌜ Upto 805306368 (coordOf (self .centre)) × (self .centre .face < 20) × (v < 6) ⌝ }
         ensures { λ r. ⌜ r ≡ hexagonCrossing self last now v ⌝ }
@@ -355,11 +367,7 @@ impl Cell {
         if is_face_edge(overage) {
             return Before::Nothing;
         }
-        let a = Vec2d::from_ijk(self.corner((v + 5) % 6));
-        let b = Vec2d::from_ijk(self.corner(v));
-        let home = self.centre.face;
-        let edge = edge_to(home, away_face(home, last.place.face, now));
-        cross_at(self.m, home, a, b, edge).unless_corner(a, b)
+        self.edge_crossing(away_face(self.centre.face, last.place.face, now), v)
     }
 
     // The crossing point between two corners of a pentagon, the second stepped over to the face of the first, whose point there is a.
@@ -373,6 +381,22 @@ impl Cell {
         }
         let back = faceijk::back_edge(now.face, edge);
         let over = now.over(edge, self.grid);
+        let b = Vec2d::from_ijk(over.coord());
+        cross_at(self.m, over.face, a, b, back)
+    }
+
+    // The same with nothing kept from the turn before. It stands apart, for the globe: called from two places, the other would be compiled into neither.
+    fn settled_crossing(self, last: Place, now: Place) -> Before
+        requires { ⌜ Okay now × (self .grid ≡ substrateOf (self .level)) × Sound (self .grid) ⌝ }
+        ensures { λ r. ⌜ r ≡ pentagonCrossing self last now ⌝ }
+    {
+        let edge = edge_to(now.face, last.face);
+        if (edge < 1) | (3 < edge) {
+            return Before::Refused(Refusal::NotAdjacent);
+        }
+        let back = faceijk::back_edge(now.face, edge);
+        let over = now.over(edge, self.grid);
+        let a = Vec2d::from_ijk(last.coord());
         let b = Vec2d::from_ijk(over.coord());
         cross_at(self.m, over.face, a, b, back)
     }
@@ -401,7 +425,7 @@ impl BoundaryPoint {
         }
     }
 
-    fn corner(place: Place) -> BoundaryPoint
+    pub fn corner(place: Place) -> BoundaryPoint
         ensures { λ r. ⌜ r ≡ cornerPoint place ⌝ }
     {
         BoundaryPoint::on(
@@ -426,7 +450,7 @@ impl Boundary {
 }
 
 // A full length makes one more turn.
-fn turns_for(sides: u32, length: u32) -> u32
+pub fn turns_for(sides: u32, length: u32) -> u32
     requires { ⌜ (sides ≤ 6) × (length ≤ sides) ⌝ }
     ensures { λ r. ⌜ r ≡ turnsFor sides length ⌝ }
 {
@@ -461,7 +485,7 @@ impl Shape {
     }
 
     // The corner at turn k, still on the centre's face.
-    fn corner(self, k: u32) -> Place
+    pub fn corner(self, k: u32) -> Place
         requires { ⌜ Fit self × (k ≤ self .sides) ⌝ }
         ensures { λ r. ⌜ r ≡ cornerPlace (self .cell) (vertexOf self k) ⌝ }
     {
@@ -522,6 +546,32 @@ impl Shape {
             return Before::Nothing;
         }
         self.cell.pentagon_crossing(last.place, a, now.place)
+    }
+
+    // How the corner at turn k lands. Public for the globe, as is what follows.
+    pub fn landed(self, k: u32) -> Landed
+        requires { ⌜ Fit self × (k ≤ self .sides) ⌝ }
+        ensures { λ r. ⌜ r ≡ landAt self k ⌝ }
+    {
+        if self.sides == 5 {
+            return self.settled(k);
+        }
+        self.crossed(k)
+    }
+
+    // What stands before the corner at turn k.
+    pub fn before(self, k: u32, last: Landed, now: Landed) -> Before
+        requires { ⌜ Fit self × (k ≤ self .sides) × Okay (now .place) ⌝ }
+        ensures { λ r. ⌜ r ≡ beforeFrom self k last now ⌝ }
+    {
+        if self.bare(k) {
+            return Before::Nothing;
+        }
+        if self.sides == 5 {
+            return self.cell.settled_crossing(last.place, now.place);
+        }
+        self.cell
+            .hexagon_crossing(last, now.place.face, self.vertex(k))
     }
 
     // The points of so many turns round a hexagon, or the refusal of the first crossing point needed. A turn past all corners only looks for a

@@ -1,4 +1,4 @@
--- `Cell::hexagon_crossing` meets its contract: each return by its tests and what it calls. Assumes nothing.
+-- `Cell::hexagon_crossing` meets its contract: each return by its tests. Assumes nothing.
 use borrow.Author.Tests.{eq-eqb, ne-eqb}
 use Rattle.boundary.specs.CrossingPoints.{hexagonCrossing}
 use borrow.Author.Needs.{needs}
@@ -16,27 +16,14 @@ returns-2 c = rw (ne-eqb _ _ (c .before .before .if1 .left), ← (c .before .is-
 returns-3 : tie.Need-returns-3
 unfolding hexagonCrossing
 returns-3 c =
-    let e = c .before .before in
-    let q = e .before .before in
-    let p = q .before .before in
-    let i = p .before .before in
+    let i = c .before .before in
     rw (
       ne-eqb _ _ (i .before .before .if1 .left),
       ← (i .before .is-face-edge .ensures),
       i .if2 .left,
-      c .unless-corner .ensures,
-      c .before .cross-at .ensures,
-      e .edge-to .ensures,
-      e .before .away-face .ensures,
-      q .from-ijk2 .ensures,
-      q .before .corner2 .ensures,
-      p .from-ijk .ensures,
-      p .before .corner .ensures,
+      c .edge-crossing .ensures,
+      c .before .away-face .ensures,
     )
 
 pub hexagon-crossing-spec : {M : Type 1} → statement M
-hexagon-crossing-spec =
-    tie.close
-    (tie.spec returns (λ c κs. search needs) returns-2 (λ c. search needs) (λ c κs. search needs) (λ c κs. search needs) (λ c κs.
-    search needs) (λ c κs. search needs) (λ c κs. search needs) (λ c κs. search needs) (λ c κs. search needs) (λ c κs. search needs)
-    returns-3)
+hexagon-crossing-spec = tie.close (tie.spec returns (λ c κs. search needs) returns-2 (λ c κs. search needs) (λ c κs. search needs) returns-3)

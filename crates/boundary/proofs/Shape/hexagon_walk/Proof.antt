@@ -7,7 +7,7 @@ use native.Mathlib.Numerals.{add-one}
 use native.Mathlib.Omega.{arith}
 use borrow.Author.Needs.{needs}
 use Rattle.boundary.specs.CrossingPoints.{beforeAt}
-use Rattle.boundary.specs.Boundaries.{padded}
+use Rattle.boundary.specs.Boundaries.{roomWith}
 use Rattle.boundary.proofs.Landing.{lastAt}
 use Rattle.boundary.proofs.Counting.{points-fit}
 use Rattle.boundary.proofs.Walking.{Walking, Between, begun, found-is, room, with-none, with-point, room-corner, past-corners, with-corner, stopped, ended}
@@ -21,7 +21,7 @@ abbrev μ-loop : tie.MeasureT-loop
 μ-loop self turns points₀ count₀ last₀ k₀ points count last k = turns - k
 
 loop-holds : tie.Need-loop-holds Inv-loop μ-loop
-unfolding padded lastAt
+unfolding roomWith lastAt
 loop-holds c = (omega arith, begun (c .before .args .self))
 
 crossed-requires : tie.Need-crossed-requires Inv-loop μ-loop

@@ -11,7 +11,7 @@ use Rattle.boundary.specs.declared.Shape.{Shape}
 use Rattle.boundary.specs.declared.BoundaryPoint.{BoundaryPoint}
 use Rattle.boundary.specs.Landing.{cornerPlace, vertexOf, landAt}
 use Rattle.boundary.specs.CrossingPoints.{cornerPoint}
-use Rattle.boundary.specs.Boundaries.{padded}
+use Rattle.boundary.specs.Boundaries.{roomWith}
 use Rattle.boundary.specs.AsWalked.{Deep}
 use Rattle.boundary.proofs.Landing.{lastAt}
 use Rattle.boundary.proofs.Walking.{Walking, begun, with-none, with-corner}
@@ -26,7 +26,7 @@ abbrev μ-loop : tie.MeasureT-loop
 μ-loop self length points₀ k₀ points k = length - k
 
 loop-holds : tie.Need-loop-holds Inv-loop μ-loop
-unfolding padded
+unfolding roomWith
 loop-holds c = (omega arith, begun (c .args .self))
 
 corner-requires : tie.Need-corner-requires Inv-loop μ-loop

@@ -11,7 +11,7 @@ use Rattle.vec2d.specs.Centre.{centreOf}
 use Rattle.faceijk.specs.Places.{coordOf}
 use Rattle.boundary.specs.Landing.{landAt}
 use Rattle.boundary.specs.CrossingPoints.{aCorner, pointOn, beforeAt}
-use Rattle.boundary.specs.Boundaries.{padded}
+use Rattle.boundary.specs.Boundaries.{roomWith}
 use Rattle.boundary.proofs.Landing.{lastAt, land-okay-of}
 use Rattle.boundary.proofs.Counting.{points-fit}
 use Rattle.boundary.proofs.Walking.{Walking, Between, begun, found-is, room, with-none, with-point, room-corner, past-corners, with-corner, stopped, ended}
@@ -26,7 +26,7 @@ abbrev μ-loop : tie.MeasureT-loop
 μ-loop self turns points₀ count₀ last₀ first₀ at₀ k₀ points count last first at k = turns - k
 
 loop-holds : tie.Need-loop-holds Inv-loop μ-loop
-unfolding padded lastAt
+unfolding roomWith lastAt
 loop-holds c =
     (omega arith, rw (c .before .rested .ensures) (begun (c .before .before .before .args .self)), λ later. absurd (omega arith), λ later. absurd (omega arith))
 
