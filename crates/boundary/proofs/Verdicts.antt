@@ -35,12 +35,12 @@ first-append (r ∷ rs) ss = go (r .applies) (first-append rs ss)
     go false e = e
 
 module _ (sides : ℕ) (p : Place) (l start n : ℕ) where
-  outside-is : outsideVerdict (askedShape sides p l start) ≡ first (when (outOfFace p l) OutOfFace ∷ [])
+  pub outside-is : outsideVerdict (askedShape sides p l start) ≡ first (when (outOfFace p l) OutOfFace ∷ [])
   unfolding cellOf
   outside-is =
       ap (λ (m : ℕ). first (when (ltb m (sumOf (throughApertures (classIII l) (coordOf p)))) OutOfFace ∷ [])) (sym (substrate-limit (raisedOf l)))
 
-  reasons-are : (v : Verdict) → cellVerdict p l (badRange sides start n) ≡ v → first (boundaryReasons sides p l start n) ≡ orElse v (first (when (outOfFace p l) OutOfFace ∷ []))
+  pub reasons-are : (v : Verdict) → cellVerdict p l (badRange sides start n) ≡ v → first (boundaryReasons sides p l start n) ≡ orElse v (first (when (outOfFace p l) OutOfFace ∷ []))
   reasons-are v e =
       first-append (cellReasons p l (badRange sides start n)) (when (outOfFace p l) OutOfFace ∷ []) ∙
       ap (λ (x : Verdict). orElse x (first (when (outOfFace p l) OutOfFace ∷ []))) e

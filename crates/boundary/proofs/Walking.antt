@@ -42,7 +42,7 @@ verdict-next s k b f e = ap (λ (v : Verdict). orElse v (verdictBefore (beforeAt
 mid-next : (s : Shape) (k : ℕ) (b : Before) → beforeAt s k ≡ b → midPoints s k ≡ pointsTo s k ++ pointsBefore b
 mid-next s k b e = ap (λ (x : Before). pointsTo s k ++ pointsBefore x) e
 
-before-is : (s : Shape) (k : ℕ) → beforeFrom s k (lastAt s k) (landAt s k) ≡ beforeAt s k
+pub before-is : (s : Shape) (k : ℕ) → beforeFrom s k (lastAt s k) (landAt s k) ≡ beforeAt s k
 unfolding beforeAt beforeFrom lastAt
 before-is s zero = refl
 before-is s (suc k) = rw (ne-eqb (suc k) 0 (λ e. omega arith))

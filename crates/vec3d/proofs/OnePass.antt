@@ -8,7 +8,7 @@ use native.Mathlib.Nat.{le-trans, le-of-eq, mul-one}
 use native.Mathlib.Omega.{arith}
 use lib.Dec.{lit<}
 use lib.ListN.{length, getD}
-use lib.Ieee.{Float, nan, inf, fin, binary64, ofBits, up, down, add, mul, lt, eq, le}
+use lib.Ieee.{Float, nan, inf, fin, ofBits, up, down, lt, eq, le}
 use lib.Ieee.Bits.{is-true}
 use lib.Ieee.Fits.{down-pos}
 use lib.Ieee.Order.{le-of-values}
@@ -16,6 +16,7 @@ use borrow.Author.Tests.{eq-eqb, not-false}
 use Rattle.reply.proofs.Entries.{neither, both}
 use Rattle.double.specs.Double.{finite, sizeOf, mulAdd, three, sphereLow, sphereHigh}
 use Rattle.double.specs.Sizes.{Under}
+use Rattle.double.proofs.Finite.{add-finite, mul-finite}
 use Rattle.double.proofs.Sizes.{size-finite}
 use Rattle.double.proofs.Tests.{lt-not-le, between-le, le-between, three-value}
 use Rattle.vec3d.specs.declared.Vec3d.{Vec3d}
@@ -87,26 +88,6 @@ not-loose v g e =
     let b = neither (lt three (sizeOf (v .x))) (lt three (sizeOf (v .y))) (a .0) in
     rw (not-above (v .x) (f .0) (b .0), not-above (v .y) (f .1) (b .1), not-above (v .z) (f .2) (a .1))
 
--- a finite sum has finite parts, a finite square a finite root
-sum-finite : (x y : Float) → finite (add binary64 x y) ≡ true → (finite x ≡ true) × (finite y ≡ true)
-unfolding add
-sum-finite nan y e = absurd (false≢true e)
-sum-finite (inf s) nan e = absurd (false≢true e)
-sum-finite (inf true) (inf true) e = absurd (false≢true e)
-sum-finite (inf true) (inf false) e = absurd (false≢true e)
-sum-finite (inf false) (inf true) e = absurd (false≢true e)
-sum-finite (inf false) (inf false) e = absurd (false≢true e)
-sum-finite (inf s) (fin t n d) e = absurd (false≢true e)
-sum-finite (fin s m k) nan e = absurd (false≢true e)
-sum-finite (fin s m k) (inf t) e = absurd (false≢true e)
-sum-finite (fin s m k) (fin t n d) e = (refl, refl)
-
-root-finite : (x : Float) → finite (mul binary64 x x) ≡ true → finite x ≡ true
-unfolding mul
-root-finite nan e = absurd (false≢true e)
-root-finite (inf s) e = absurd (false≢true e)
-root-finite (fin s m k) e = refl
-
 between-finite : (lo d hi : Float) → finite lo ≡ true → finite hi ≡ true → (le lo d && le d hi) ≡ true → finite d ≡ true
 unfolding le lt eq
 between-finite nan d hi f g e = absurd (false≢true f)
@@ -130,9 +111,9 @@ high-finite = refl
 pub parts-finite : (v : Vec3d) → finite (dotOf v v) ≡ true → (finite (v .x) ≡ true) × (finite (v .y) ≡ true) × (finite (v .z) ≡ true)
 unfolding dotOf mulAdd
 parts-finite v d =
-    let xs = sum-finite _ _ d in
-    let ys = sum-finite _ _ (xs .1) in
-    (root-finite (v .x) (xs .0), root-finite (v .y) (ys .0), root-finite (v .z) (ys .1))
+    let xs = add-finite _ _ d in
+    let ys = add-finite _ _ (xs .1) in
+    (mul-finite _ _ (xs .0) .0, mul-finite _ _ (ys .0) .0, mul-finite _ _ (ys .1) .0)
 
 pub on-sphere : (v : Vec3d) → offSphere v ≡ false → badNumber v ≡ false
 unfolding offSphere badNumber

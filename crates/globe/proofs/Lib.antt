@@ -1,0 +1,10 @@
+-- Laws of `globe`.
+pub mod OneTest
+pub mod Images
+pub mod Entering
+pub mod Taking
+pub mod Turning
+pub mod OnFaces
+pub mod Filling
+pub mod Deep
+pub mod UnitLength
