@@ -13,12 +13,16 @@ ghost use Rattle.face_projection.specs.Projection.{planeReply};
 ghost use Rattle.locate.specs.Locating.{locateReply};
 ghost use Rattle.boundary.specs.Corners.{cornersReply};
 ghost use Rattle.boundary.specs.Boundaries.{boundaryReply};
+ghost use Rattle.root.specs.Root.{rootReply};
+ghost use Rattle.globe.specs.Points.{sphereReply};
+ghost use Rattle.globe.specs.Boundaries.{globeReply};
 ghost use Rattle.frame.specs.Default.{defaultFrame};
 ghost use Rattle.lent.specs.Lent.{Gives, GivesFramed, bitsOf, at};
 ghost use Rattle.lent_grid.specs.Lines.{linesReply};
 ghost use Rattle.lent_grid.specs.Numbered.{numberedReply};
 ghost use Rattle.lent_places.specs.Places.{vec, GivesNearest, GivesBatch};
 ghost use Rattle.lent_borders.specs.Borders.{GivesBoundary};
+ghost use Rattle.lent_globe.specs.Globes.{GivesGlobe};
 use reply::Refusal;
 
 // A cell level to its grid level.
@@ -292,6 +296,67 @@ pub extern "C" fn heddleplume_pentagon(
     ensures { λ r. ⌜ GivesBoundary (boundaryReply 5 (at face i j k) level start length) (now (marks .entry)) (now (marks .exit)) (bitsOf (now (points .entry))) (bitsOf (now (points .exit))) r ⌝ }
 {
     lent_borders::pentagon(face, i, j, k, level, start, length, marks, points)
+}
+
+// The square root of a number.
+#[no_mangle]
+pub extern "C" fn heddleplume_root(x: f64, out: &mut [f64]) -> u32
+    ensures { λ r. ⌜ Gives 1 (rootReply x) (bitsOf (now (out .entry))) (bitsOf (now (out .exit))) r ⌝ }
+{
+    lent_globe::root(x, out)
+}
+
+// The unit vector of a plane point of a face on the substrate grid of a grid level: x, y, z.
+#[no_mangle]
+pub extern "C" fn heddleplume_sphere(
+    frame: &[f64],
+    face: u32,
+    level: u32,
+    x: f64,
+    y: f64,
+    out: &mut [f64],
+) -> u32
+    ensures { λ r. ⌜ GivesFramed (badFrame (now (frame .entry))) 3 (sphereReply (now (frame .entry)) face level (point x y)) (bitsOf (now (out .entry))) (bitsOf (now (out .exit))) r ⌝ }
+{
+    lent_globe::sphere(frame, face, level, x, y, out)
+}
+
+// The boundary of a hexagon on the sphere. marks: as for the plane; points: x, y, z twelve times.
+#[no_mangle]
+pub extern "C" fn heddleplume_hexagon_sphere(
+    frame: &[f64],
+    face: u32,
+    i: u32,
+    j: u32,
+    k: u32,
+    level: u32,
+    start: u32,
+    length: u32,
+    marks: &mut [u32],
+    points: &mut [f64],
+) -> u32
+    ensures { λ r. ⌜ GivesGlobe (badFrame (now (frame .entry))) (globeReply 6 (now (frame .entry)) (at face i j k) level start length) (now (marks .entry)) (now (marks .exit)) (bitsOf (now (points .entry))) (bitsOf (now (points .exit))) r ⌝ }
+{
+    lent_globe::hexagon(frame, face, i, j, k, level, start, length, marks, points)
+}
+
+// The same of a pentagon.
+#[no_mangle]
+pub extern "C" fn heddleplume_pentagon_sphere(
+    frame: &[f64],
+    face: u32,
+    i: u32,
+    j: u32,
+    k: u32,
+    level: u32,
+    start: u32,
+    length: u32,
+    marks: &mut [u32],
+    points: &mut [f64],
+) -> u32
+    ensures { λ r. ⌜ GivesGlobe (badFrame (now (frame .entry))) (globeReply 5 (now (frame .entry)) (at face i j k) level start length) (now (marks .entry)) (now (marks .exit)) (bitsOf (now (points .entry))) (bitsOf (now (points .exit))) r ⌝ }
+{
+    lent_globe::pentagon(frame, face, i, j, k, level, start, length, marks, points)
 }
 
 // The default frame: 180 doubles.

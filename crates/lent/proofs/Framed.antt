@@ -1,5 +1,5 @@
 -- The number of a call that is lent a frame: a bad frame comes before a slice that is too short, and what the entry says comes after both. Assumes nothing.
-use mathlib.Core.Path.{_≡_, ap, _∙_}
+use mathlib.Core.Path.{_≡_, refl, sym, ap, _∙_}
 use mathlib.Core.Bool.{Bool, true, false}
 use mathlib.Core.List.{List, _++_}
 use Prim.Native.Nat.{ℕ, _≤_, _<_}
@@ -12,7 +12,6 @@ use Rattle.reply.specs.declared.Refusal.the-variants.{BadFrame, BadRows}
 use Rattle.reply.specs.declared.Verdict.{Verdict}
 use Rattle.reply.specs.declared.Verdict.the-variants.{Refused}
 use Rattle.reply.specs.Replies.{numberOf, Reply, answer, refusal, reply}
-use Rattle.reply.proofs.Entries.{answer-or-refusal}
 use Rattle.lent.specs.Lent.{framedNumber, GivesFramed, bitsOf}
 use Rattle.lent.proofs.Lent.{kept, few, room-bits, bits-written}
 
@@ -28,13 +27,16 @@ short-number false r k e = (e, e)
 abbrev pub framedReply : Bool → ℕ → Verdict → List ℕ → Reply
 framedReply bad m v ws = reply m (pick bad (Refused BadFrame) v) ws
 
+-- past the lengths the number is the reply's
+pub framed-said : (bad : Bool) (m : ℕ) (v : Verdict) (ws : List ℕ) → framedNumber bad false (framedReply bad m v ws) ≡ framedReply bad m v ws .number
+framed-said true m v ws = refl
+framed-said false m v ws = refl
+
 pub answer-number : (bad : Bool) (m : ℕ) (v : Verdict) (vs ws : List ℕ) → answer vs ≡ framedReply bad m v ws → 0 ≡ framedNumber bad false (framedReply bad m v ws)
-answer-number true m v vs ws e = answer-or-refusal m vs BadFrame e
-answer-number false m v vs ws e = ap (λ (x : Reply). x .number) e
+answer-number bad m v vs ws e = ap (λ (x : Reply). x .number) e ∙ sym (framed-said bad m v ws)
 
 pub refusal-number : (bad : Bool) (m : ℕ) (v : Verdict) (x : Refusal) (ws : List ℕ) → refusal m x ≡ framedReply bad m v ws → numberOf x ≡ framedNumber bad false (framedReply bad m v ws)
-refusal-number true m v x ws e = ap (λ (y : Reply). y .number) e
-refusal-number false m v x ws e = ap (λ (y : Reply). y .number) e
+refusal-number bad m v x ws e = ap (λ (y : Reply). y .number) e ∙ sym (framed-said bad m v ws)
 
 module _ (bad : Bool) (n : ℕ) (out : List ℕ) where
   pub short-framed : (r : Reply) (k : ℕ) → length out < n → k ≡ pick bad 1 2 → GivesFramed bad n r out out k

@@ -2,4 +2,6 @@
 pub mod Lent
 pub mod Framed
 pub mod Writing
+pub mod Rows
+pub mod Both
 pub mod Unique

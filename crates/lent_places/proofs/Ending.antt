@@ -1,12 +1,12 @@
 -- How the calls with a frame end: a slice that is too short, an answer, a refusal. Assumes nothing.
-use mathlib.Core.Path.{_≡_, sym, ap, _∙_}
+use mathlib.Core.Path.{_≡_, ap, _∙_}
 use mathlib.Core.Bool.{Bool, true, false, _||_}
 use mathlib.Core.List.{List, [], _∷_, _++_}
 use Prim.Native.Nat.{ℕ, _/_, _≤_, _<_}
 use lib.Dec.{ltb}
 use lib.IntN.{ℤ}
-use lib.Ieee.{Float, binary64, toBits}
-use lib.ListN.{length, take, drop, length-map}
+use lib.Ieee.{Float}
+use lib.ListN.{length, take, drop}
 use borrow.Author.Tests.{lt-ltb, le-ltb}
 use Rattle.reply.specs.Choice.{pick}
 use Rattle.reply.specs.declared.Refusal.{Refusal}
@@ -16,7 +16,8 @@ use Rattle.reply.specs.Replies.{numberOf, Reply, when, first, answer, refusal}
 use Rattle.level.specs.Levels.{badCell}
 use Rattle.lent.specs.Lent.{framedNumber, bitsOf}
 use Rattle.lent.proofs.Lent.{kept, bits-written}
-use Rattle.lent.proofs.Framed.{frameOrRows, short-number, answer-number, refusal-number}
+use Rattle.lent.proofs.Framed.{frameOrRows, framed-said, short-number, answer-number, refusal-number}
+use Rattle.lent.proofs.Both.{both-short, both-answers, both-refuses}
 use Rattle.vec3d.specs.declared.Vec3d.{Vec3d}
 use Rattle.vec3d.specs.declared.Nearest.{Nearest}
 use Rattle.vec3d.specs.Vectors.{vectorVerdict}
@@ -30,42 +31,27 @@ module _ (s : List Float) (p : Vec3d) (faces : List ℕ) (distances : List Float
   abbrev few : Bool
   few = ltb (length faces) 1 || ltb (length distances) 1
 
-  -- the number by the test on the doubles themselves
-  tested : (b : Bool) (k : ℕ) → few ≡ b → k ≡ framedNumber (badFrame s) b (nearestReply s p)
-      → k ≡ framedNumber (badFrame s) (ltb (length faces) 1 || ltb (length (bitsOf distances)) 1) (nearestReply s p)
-  tested b k t e =
-      let same : (ltb (length faces) 1 || ltb (length (bitsOf distances)) 1) ≡ b = rw (length-map distances (toBits binary64)) t in
-      e ∙ ap (λ (x : Bool). framedNumber (badFrame s) x (nearestReply s p)) (sym same)
+  abbrev values : List ℕ
+  values = nearestReply s p .values
+
+  said : framedNumber (badFrame s) false (nearestReply s p) ≡ nearestReply s p .number
+  said = framed-said (badFrame s) 2 (vectorVerdict p) (nearestValues (nearestTo s p 19))
 
   pub nearest-short : (k : ℕ) → few ≡ true → k ≡ pick (badFrame s) 1 2 → GivesNearest s p faces faces (bitsOf distances) (bitsOf distances) k
-  nearest-short k t e =
-      let n = short-number (badFrame s) (nearestReply s p) k e in
-      record {
-        number = tested true k t (n .0);
-        one = kept (frameOrRows (badFrame s)) k 1 (take 1 (nearestReply s p .values)) faces (n .1);
-        other = kept (frameOrRows (badFrame s)) k 1 (drop 1 (nearestReply s p .values)) (bitsOf distances) (n .1);
-      }
+  nearest-short = both-short (badFrame s) (nearestReply s p) 1 (take 1 values) faces 1 (drop 1 values) distances
 
   pub nearest-answers : (n : Nearest) (faces₂ : List ℕ) (distances₂ : List Float) → few ≡ false → answer (nearestValues n) ≡ nearestReply s p
       → faces₂ ≡ (n .face ∷ []) ++ drop 1 faces → distances₂ ≡ (n .distance ∷ []) ++ drop 1 distances
       → GivesNearest s p faces faces₂ (bitsOf distances) (bitsOf distances₂) 0
   nearest-answers n faces₂ distances₂ t e f d =
-      record {
-        number = tested false 0 t (answer-number (badFrame s) 2 (vectorVerdict p) (nearestValues n) (nearestValues (nearestTo s p 19)) e);
-        one = f ∙ ap (λ (y : Reply). take 1 (y .values) ++ drop 1 faces) e;
-        other =
-            bits-written 1 (n .distance ∷ []) distances distances₂ d ∙
-            ap (λ (y : Reply). drop 1 (y .values) ++ drop 1 (bitsOf distances)) e;
-      }
+      both-answers (badFrame s) (nearestReply s p) 1 (take 1 values) faces 1 (drop 1 values) distances said faces₂ (bitsOf distances₂) t (ap (λ (y : Reply). y .number) e)
+      (f ∙ ap (λ (y : Reply). take 1 (y .values) ++ drop 1 faces) e)
+      (bits-written 1 (n .distance ∷ []) distances distances₂ d ∙ ap (λ (y : Reply). drop 1 (y .values) ++ drop 1 (bitsOf distances)) e)
 
   pub nearest-refuses : (x : Refusal) (k : ℕ) → few ≡ false → refusal 2 x ≡ nearestReply s p → k ≡ numberOf x
       → GivesNearest s p faces faces (bitsOf distances) (bitsOf distances) k
   nearest-refuses x k t e w =
-      record {
-        number = tested false k t (w ∙ refusal-number (badFrame s) 2 (vectorVerdict p) x (nearestValues (nearestTo s p 19)) e);
-        one = kept x k 1 (take 1 (nearestReply s p .values)) faces w;
-        other = kept x k 1 (drop 1 (nearestReply s p .values)) (bitsOf distances) w;
-      }
+      both-refuses (badFrame s) (nearestReply s p) 1 (take 1 values) faces 1 (drop 1 values) distances said x k t (ap (λ (y : Reply). y .number) e) w
 
 module _ (s : List Float) (l : ℕ) (input : List Float) (start : ℕ) (out : List ℤ) (refused : List ℕ) where
   abbrev outcome : Outcome

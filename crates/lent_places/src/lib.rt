@@ -15,8 +15,8 @@ use vec2d::Pointed;
 use vec3d::NearestFace;
 use vec3d::Vec3d;
 
-// What a slice that is too short gets.
-fn frame_or_rows(frame: &[f64]) -> u32
+// What a slice that is too short gets. Public for the calls of the sphere.
+pub fn frame_or_rows(frame: &[f64]) -> u32
     ensures { λ r. ⌜ r ≡ pick (badFrame (now (frame .entry))) 1 2 ⌝ }
 {
     if vec3d::bad_frame(frame) {

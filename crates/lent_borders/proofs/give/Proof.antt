@@ -1,14 +1,16 @@
 -- `give` meets its contract: the record's refusal decides. Assumes nothing.
 use borrow.Author.Needs.{needs}
 use borrow.Author.Tests.{ltb-false}
-use mathlib.Core.Path.{sym, ap}
+use mathlib.Core.Path.{refl, sym, ap}
+use mathlib.Core.Bool.{false}
 use lib.Dec.{ltb}
 use lib.ListN.{length}
 use Rattle.reply.proofs.Entries.{neither}
 use Rattle.reply.specs.Replies.{verdictNumber}
 use Rattle.boundary.specs.Boundaries.{saidBoundary}
 use Rattle.lent.specs.Lent.{bitsOf}
-use Rattle.lent_borders.proofs.Ending.{boundary-short, boundary-answers, boundary-refuses}
+use Rattle.lent.proofs.Both.{both-short, both-answers, both-refuses}
+use Rattle.lent_borders.specs.Borders.{marksOf, pointsOf}
 use Rattle.lent_borders.proofs.give.Statement.{statement}
 use Rattle.lent_borders.proofs.give.Tie as tie
 
@@ -23,7 +25,8 @@ put-points-requires c κs =
 returns : tie.Need-returns
 returns c =
     let a = c .before .before .before .before .args in
-    boundary-short (saidBoundary (a .border)) (a .marks .now) (a .points .now) _ (c .before .if1 .taken) (c .number .ensures)
+    let r = saidBoundary (a .border) in
+    both-short false r 25 (marksOf (r .values)) (a .marks .now) 24 (pointsOf (r .values)) (a .points .now) _ (c .before .if1 .taken) (c .number .ensures)
 
 returns-2 : tie.Need-returns-2
 returns-2 c =
@@ -32,7 +35,8 @@ returns-2 c =
     let told = m .before .before in
     let e = told .before .before .before in
     let a = e .before .before .before .args in
-    boundary-answers (saidBoundary (a .border)) (a .marks .now) (a .points .now) _ (bitsOf (p .put-points .last .0)) (e .if1 .left)
+    let r = saidBoundary (a .border) in
+    both-answers false r 25 (marksOf (r .values)) (a .marks .now) 24 (pointsOf (r .values)) (a .points .now) refl _ (bitsOf (p .put-points .last .0)) (e .if1 .left)
     (ap verdictNumber (sym (told .enum-told .given .1))) (m .put-marks .ensures) (p .put-points .ensures)
 
 returns-3 : tie.Need-returns-3
@@ -40,7 +44,8 @@ returns-3 c =
     let v = c .before .before in
     let e = v .before .before .before in
     let a = e .before .before .before .args in
-    boundary-refuses (saidBoundary (a .border)) (a .marks .now) (a .points .now) (v .verdict .given .0 .0) _ (e .if1 .left)
+    let r = saidBoundary (a .border) in
+    both-refuses false r 25 (marksOf (r .values)) (a .marks .now) 24 (pointsOf (r .values)) (a .points .now) refl (v .verdict .given .0 .0) _ (e .if1 .left)
     (ap verdictNumber (sym (v .verdict .given .1))) (c .number2 .ensures)
 
 pub give-spec : {M : Type 1} → statement M

@@ -8,7 +8,8 @@ use lib.ListN.{length, take, drop}
 use lib.Seq.{take-all}
 use Rattle.coordijk.specs.Coordinates.{coordValues}
 use Rattle.boundary.specs.Corners.{coordsValues}
-use Rattle.lent_borders.proofs.Storing.{store-more, coords-snoc, begun, past}
+use Rattle.lent.proofs.Rows.{store-more, begun, past}
+use Rattle.lent_borders.proofs.Storing.{coords-snoc}
 use Rattle.lent_borders.proofs.put_corners.Statement.{statement}
 use Rattle.lent_borders.proofs.put_corners.Tie as tie
 

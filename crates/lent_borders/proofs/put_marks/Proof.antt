@@ -9,7 +9,8 @@ use lib.Seq.{take-all}
 use Rattle.boundary.specs.declared.BoundaryPoint.{BoundaryPoint}
 use Rattle.boundary.specs.Boundaries.{pointsValues}
 use Rattle.lent_borders.specs.Borders.{marksIn}
-use Rattle.lent_borders.proofs.Storing.{store-more, marksAt, marks-snoc, begun, past}
+use Rattle.lent.proofs.Rows.{store-more, begun, past}
+use Rattle.lent_borders.proofs.Storing.{marksAt, marks-snoc}
 use Rattle.lent_borders.proofs.put_marks.Statement.{statement}
 use Rattle.lent_borders.proofs.put_marks.Tie as tie
 

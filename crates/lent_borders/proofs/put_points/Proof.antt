@@ -8,7 +8,8 @@ use lib.ListN.{length, take, drop}
 use lib.Seq.{take-all}
 use Rattle.lent.specs.Lent.{bitsOf}
 use Rattle.lent.proofs.Lent.{bits-written}
-use Rattle.lent_borders.proofs.Storing.{store-more, xyAt, xys, xys-snoc, xys-bits}
+use Rattle.lent.proofs.Rows.{store-more}
+use Rattle.lent_borders.proofs.Storing.{xyAt, xys, xys-snoc, xys-bits}
 use Rattle.lent_borders.proofs.put_points.Statement.{statement}
 use Rattle.lent_borders.proofs.put_points.Tie as tie
 

@@ -1,0 +1,2 @@
+-- Definitions of `lent_globe`: a boundary on the sphere in two lent slices.
+pub mod Globes
