@@ -6,7 +6,7 @@
  * What holds for every function here:
  *
  * - It returns 0 if it answered, otherwise the number of its refusal, one of enum heddleplume_refusal. Of several that apply the
- *   smallest is given.
+ *   smallest is given; of the points of a border the first that is refused decides.
  * - The answer goes into the memory lent for it, each piece of which comes with its length in elements. It may be longer than stated
  *   here; what lies past the answer stays as it was. Shorter gets 2, HEDDLEPLUME_BAD_ROWS.
  * - A refusal writes nothing. The memory then still holds what it held before, perhaps an old answer: so read the number first, and
@@ -47,9 +47,11 @@ enum heddleplume_refusal {
     HEDDLEPLUME_BAD_FACE = 3,      /* a face above 19 */
     HEDDLEPLUME_BAD_LEVEL = 4,     /* a cell level above 15; a grid level that is odd or above 16 */
     HEDDLEPLUME_BAD_RANGE = 5,     /* an edge not 1..3, a map not 1..5, or a start or length of a border out of range */
-    HEDDLEPLUME_BAD_NUMBER = 6,    /* a NaN or an infinity: the receiver has no fix, do not switch its feed */
+    HEDDLEPLUME_BAD_NUMBER = 6,    /* a NaN or an infinity: the receiver has no fix, do not switch its feed. Also a root of a number below
+                                      0, and a point on the sphere whose length is not finite or whose face has a u of length 0 */
     HEDDLEPLUME_OFF_SPHERE = 7,    /* the vector's length is not 1: divide the vector by its length first */
-    HEDDLEPLUME_BEHIND = 8,        /* the vector lies behind the face's plane: the frame is no icosahedron */
+    HEDDLEPLUME_BEHIND = 8,        /* the vector lies behind the face's plane, or a point on its way to the sphere is nearer to the middle
+                                      than a half: the frame is no icosahedron */
     HEDDLEPLUME_TOO_FAR = 9,       /* a plane point with a part of 2^25 or more: the point lies on no face */
     HEDDLEPLUME_NOT_REDUCED = 10,  /* no coordinate is 0, or one is above 2^26: subtract the least from all three */
     HEDDLEPLUME_OUT_OF_FACE = 11,  /* a border's centre lies outside its face: at an even level settle it first, at an odd one it
@@ -74,7 +76,9 @@ enum heddleplume_length {
     HEDDLEPLUME_SETTLE_LEN = 5,   /* numbers: face i j k, and the number of steps */
     HEDDLEPLUME_CORNERS_LEN = 19, /* numbers: the grid level, then i j k six times */
     HEDDLEPLUME_MARKS_LEN = 25,   /* numbers: the count, then face and mark twelve times */
-    HEDDLEPLUME_POINTS_LEN = 24   /* doubles: x y twelve times */
+    HEDDLEPLUME_POINTS_LEN = 24,  /* doubles: x y twelve times */
+    HEDDLEPLUME_ROOT_LEN = 1,     /* doubles: the root */
+    HEDDLEPLUME_VECTORS_LEN = 36  /* doubles: x y z twelve times */
 };
 
 /* The maps that heddleplume_map takes. */
@@ -268,6 +272,39 @@ uint32_t heddleplume_hexagon(uint32_t face, uint32_t i, uint32_t j, uint32_t k, 
  */
 uint32_t heddleplume_pentagon(uint32_t face, uint32_t i, uint32_t j, uint32_t k, uint32_t level, uint32_t start, uint32_t length,
                               uint32_t *marks, size_t marks_len, double *points, size_t points_len);
+
+/* ---- On the sphere ---- */
+
+/*
+ * The square root: the nearest double. That of minus zero is minus zero.
+ * Writes out[0]. Refusals: 2, 6 (a number below 0, an infinity, a NaN).
+ */
+uint32_t heddleplume_root(double x, double *out, size_t out_len);
+
+/*
+ * The unit vector of a plane point of a face. `level` is a grid level, and the point one of its substrate grid, as the points of borders
+ * are: their grid level is the cell level, an odd one raised by one. No point is too far for it. The vector passes the test of 7.
+ * Writes out[0..2]: x y z. Refusals: 1, 2, 3, 4, 6, 8.
+ */
+uint32_t heddleplume_sphere(const double *frame, size_t frame_len, uint32_t face, uint32_t level, double x, double y, double *out,
+                            size_t out_len);
+
+/*
+ * The border of a hexagon on the sphere: the border that heddleplume_hexagon gives, each point as heddleplume_sphere gives it.
+ * Writes marks[0..24] as heddleplume_hexagon does; points[0..35]: x y z twelve times. Points from the count on are unused: all zeros.
+ * Refusals: 1, 2, 3, 4, 5, 10, 11, then the points in their order: 6, 8 or 13, that of the first point that is refused.
+ */
+uint32_t heddleplume_hexagon_sphere(const double *frame, size_t frame_len, uint32_t face, uint32_t i, uint32_t j, uint32_t k,
+                                    uint32_t level, uint32_t start, uint32_t length, uint32_t *marks, size_t marks_len, double *points,
+                                    size_t points_len);
+
+/*
+ * The same of a pentagon: `start` is 0..4, `length` 0..5.
+ * Refusals: 1, 2, 3, 4, 5, 10, 11, then 6, 8, 12 or 13, that of the first point that is refused.
+ */
+uint32_t heddleplume_pentagon_sphere(const double *frame, size_t frame_len, uint32_t face, uint32_t i, uint32_t j, uint32_t k,
+                                     uint32_t level, uint32_t start, uint32_t length, uint32_t *marks, size_t marks_len, double *points,
+                                     size_t points_len);
 
 #ifdef __cplusplus
 }

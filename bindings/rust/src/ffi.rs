@@ -29,6 +29,10 @@ mod c {
         pub fn heddleplume_corners(face: u32, i: u32, j: u32, k: u32, level: u32, out: *mut u32, out_len: usize) -> u32;
         pub fn heddleplume_hexagon(face: u32, i: u32, j: u32, k: u32, level: u32, start: u32, length: u32, marks: *mut u32, marks_len: usize, points: *mut f64, points_len: usize) -> u32;
         pub fn heddleplume_pentagon(face: u32, i: u32, j: u32, k: u32, level: u32, start: u32, length: u32, marks: *mut u32, marks_len: usize, points: *mut f64, points_len: usize) -> u32;
+        pub fn heddleplume_root(x: f64, out: *mut f64, out_len: usize) -> u32;
+        pub fn heddleplume_sphere(frame: *const f64, frame_len: usize, face: u32, level: u32, x: f64, y: f64, out: *mut f64, out_len: usize) -> u32;
+        pub fn heddleplume_hexagon_sphere(frame: *const f64, frame_len: usize, face: u32, i: u32, j: u32, k: u32, level: u32, start: u32, length: u32, marks: *mut u32, marks_len: usize, points: *mut f64, points_len: usize) -> u32;
+        pub fn heddleplume_pentagon_sphere(frame: *const f64, frame_len: usize, face: u32, i: u32, j: u32, k: u32, level: u32, start: u32, length: u32, marks: *mut u32, marks_len: usize, points: *mut f64, points_len: usize) -> u32;
     }
 }
 
@@ -152,6 +156,34 @@ pub fn pentagon(centre: Four, level: u32, start: u32, length: u32, marks: &mut [
     let (marks, marked) = (marks.as_mut_ptr(), marks.len());
     // SAFETY: two slices, each with its own length.
     unsafe { c::heddleplume_pentagon(face, i, j, k, level, start, length, marks, marked, points.as_mut_ptr(), points.len()) }
+}
+
+pub fn root(x: f64, out: &mut [f64]) -> u32 {
+    // SAFETY: a slice with its own length.
+    unsafe { c::heddleplume_root(x, out.as_mut_ptr(), out.len()) }
+}
+
+pub fn sphere(frame: &[f64], face: u32, level: u32, [x, y]: [f64; 2], out: &mut [f64]) -> u32 {
+    // SAFETY: two slices, each with its own length.
+    unsafe { c::heddleplume_sphere(frame.as_ptr(), frame.len(), face, level, x, y, out.as_mut_ptr(), out.len()) }
+}
+
+pub fn hexagon_sphere(frame: &[f64], centre: Four, level: u32, start: u32, length: u32, marks: &mut [u32], points: &mut [f64]) -> u32 {
+    let [face, i, j, k] = centre;
+    let (frame, frames) = (frame.as_ptr(), frame.len());
+    let (marks, marked) = (marks.as_mut_ptr(), marks.len());
+    let (points, pointed) = (points.as_mut_ptr(), points.len());
+    // SAFETY: three slices, each with its own length.
+    unsafe { c::heddleplume_hexagon_sphere(frame, frames, face, i, j, k, level, start, length, marks, marked, points, pointed) }
+}
+
+pub fn pentagon_sphere(frame: &[f64], centre: Four, level: u32, start: u32, length: u32, marks: &mut [u32], points: &mut [f64]) -> u32 {
+    let [face, i, j, k] = centre;
+    let (frame, frames) = (frame.as_ptr(), frame.len());
+    let (marks, marked) = (marks.as_mut_ptr(), marks.len());
+    let (points, pointed) = (points.as_mut_ptr(), points.len());
+    // SAFETY: three slices, each with its own length.
+    unsafe { c::heddleplume_pentagon_sphere(frame, frames, face, i, j, k, level, start, length, marks, marked, points, pointed) }
 }
 
 #[cfg(test)]

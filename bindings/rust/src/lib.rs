@@ -19,7 +19,7 @@
 //! ```
 //!
 //! One vector alone is asked with [`locate`]; [`locate_each`] gives a batch as results of its own. Places move from face to face by the
-//! methods of [`FaceIJK`], which also has the corners and borders of cells.
+//! methods of [`FaceIJK`], which also has the corners and borders of cells, on the plane of a face and on the sphere.
 #![deny(unsafe_code, missing_docs)]
 #![warn(clippy::undocumented_unsafe_blocks)]
 
@@ -33,9 +33,9 @@ mod plane;
 mod refusal;
 mod sphere;
 
-pub use borders::{Boundary, BoundaryPoint, Corners, Mark};
+pub use borders::{Border, Boundary, BoundaryPoint, Corners, Mark, SphereBoundary, SpherePoint};
 pub use levels::{CellLevel, Grid, GridLevel, Sizes};
 pub use places::{Direction, FaceIJK, Landed, Overage, Rested, face_direction};
 pub use plane::{CoordIJK, GridMap, Vec2d};
 pub use refusal::Refusal;
-pub use sphere::{Frame, Vec3d, locate, locate_all, locate_each, plane_point, read_row};
+pub use sphere::{Frame, Vec3d, locate, locate_all, locate_each, plane_point, read_row, sphere_point, square_root};

@@ -16,11 +16,11 @@ pub enum Refusal {
     BadLevel = 4,
     /// An edge that is none of the three, or a start or length of a border out of range.
     BadRange = 5,
-    /// A NaN or an infinity.
+    /// A NaN or an infinity; the root of a number below 0; a point on the sphere whose length is not finite.
     BadNumber = 6,
     /// The vector's length is not 1.
     OffSphere = 7,
-    /// The vector lies behind the face's plane.
+    /// The vector lies behind the face's plane, or a point on its way to the sphere is nearer to the middle than a half.
     Behind = 8,
     /// A plane point with a part of 2^25 or more.
     TooFar = 9,

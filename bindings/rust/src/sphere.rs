@@ -1,6 +1,6 @@
-//! The frame of twenty faces, and where a unit vector lies in it, alone and as a batch.
+//! The frame of twenty faces, and where a unit vector lies in it, alone and as a batch; and the way back, from a face's plane to the sphere.
 use crate::answered::answered;
-use crate::{CellLevel, FaceIJK, Refusal, Vec2d, ffi};
+use crate::{CellLevel, FaceIJK, GridLevel, Refusal, Vec2d, ffi};
 
 /// A vector from the centre of the Earth. Of unit length, or it gets [`Refusal::OffSphere`].
 #[derive(Clone, Copy, Debug, PartialEq)]
@@ -86,6 +86,21 @@ pub fn plane_point(frame: &Frame, face: u32, level: CellLevel, vector: impl Into
     let mut out = [0.0; 2];
     answered(ffi::plane_point(&frame.0, face, level.0, vector.into(), &mut out))?;
     Ok(Vec2d::new(out[0], out[1]))
+}
+
+/// The unit vector of a plane point of a face, on the substrate grid of a grid level: the way back from [`plane_point`], for points of
+/// borders. No point is too far for it. Refusals: 3, 4, 6, 8.
+pub fn sphere_point(frame: &Frame, face: u32, level: GridLevel, point: Vec2d) -> Result<Vec3d, Refusal> {
+    let mut out = [0.0; 3];
+    answered(ffi::sphere(&frame.0, face, level.0, [point.x, point.y], &mut out))?;
+    Ok(out.into())
+}
+
+/// The square root, worked out from the bits: the nearest double, and minus zero of minus zero. Refusals: 6, for a number below 0 too.
+pub fn square_root(x: f64) -> Result<f64, Refusal> {
+    let mut out = [0.0];
+    answered(ffi::root(x, &mut out))?;
+    Ok(out[0])
 }
 
 /// The place of a unit vector. Refusals: 4, 6, 7, 8.

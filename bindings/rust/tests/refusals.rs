@@ -2,7 +2,7 @@
 use std::error::Error;
 
 use heddleplume::{CellLevel, CoordIJK, Direction, FaceIJK, Frame, Grid, GridLevel, Mark, Refusal, Vec2d, Vec3d};
-use heddleplume::{face_direction, locate, locate_all, locate_each, read_row};
+use heddleplume::{face_direction, locate, locate_all, locate_each, plane_point, read_row, sphere_point, square_root};
 
 #[test]
 fn fourteen_with_their_numbers() {
@@ -172,4 +172,45 @@ fn rows_that_no_batch_writes() {
         assert_eq!(read_row(row), None, "{row:?}");
     }
     assert_eq!(read_row([19, 0, 5, 6]), Some(Ok(FaceIJK::new(19, 0, 5, 6))));
+}
+
+#[test]
+fn roots() {
+    assert_eq!(square_root(2.0), Ok(2f64.sqrt()));
+    assert_eq!(square_root(-0.0).map(f64::to_bits), Ok((-0f64).to_bits()));
+    for bad in [-1.0, f64::NAN, f64::INFINITY] {
+        assert_eq!(square_root(bad), Err(Refusal::BadNumber));
+    }
+}
+
+/// A point on the sphere is taken by every question about vectors, and leads back to its plane point.
+#[test]
+fn to_the_sphere_and_back() {
+    let frame = Frame::default();
+    for (face, point) in [(0, Vec2d::new(1.0, 0.5)), (7, Vec2d::new(-3.0, 2.0)), (19, Vec2d::new(0.0, 0.0))] {
+        let vector = sphere_point(&frame, face, GridLevel(2), point).unwrap();
+        assert_eq!(vector.closest_face(&frame).map(|(nearest, _)| nearest), Ok(face));
+        // The substrate grid has three steps for one of the plane.
+        let back = plane_point(&frame, face, CellLevel(2), vector).unwrap();
+        assert!((3.0 * back.x - point.x).abs() < 1e-12 && (3.0 * back.y - point.y).abs() < 1e-12, "{back:?}");
+    }
+    assert_eq!(sphere_point(&frame, 20, GridLevel(1), Vec2d::new(f64::NAN, 0.0)), Err(Refusal::BadFace));
+    assert_eq!(sphere_point(&frame, 0, GridLevel(1), Vec2d::new(f64::NAN, 0.0)), Err(Refusal::BadLevel));
+    assert_eq!(sphere_point(&frame, 0, GridLevel(2), Vec2d::new(f64::NAN, 0.0)), Err(Refusal::BadNumber));
+}
+
+#[test]
+fn a_border_on_the_sphere_is_that_on_the_plane() {
+    let frame = Frame::default();
+    let pentagon = FaceIJK::new(0, 6, 0, 2);
+    let (plane, sphere) =
+        (pentagon.pentagon_boundary(CellLevel(1), 0, 5).unwrap(), pentagon.pentagon_on_sphere(&frame, CellLevel(1), 0, 5).unwrap());
+    assert_eq!((plane.len(), sphere.len()), (10, 10));
+    for (flat, round) in plane.iter().zip(sphere.iter()) {
+        assert_eq!((flat.face, flat.mark), (round.face, round.mark));
+        assert_eq!(sphere_point(&frame, flat.face, GridLevel(2), Vec2d::new(flat.x, flat.y)), Ok(round.vector));
+        assert!(locate(&frame, CellLevel(15), round.vector).is_ok());
+    }
+    let far = FaceIJK::new(0, 3, 0, 0).hexagon_on_sphere(&frame, CellLevel(0), 0, 6);
+    assert_eq!(far, Err(Refusal::OutOfFace));
 }

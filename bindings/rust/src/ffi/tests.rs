@@ -396,3 +396,122 @@ fn empty_border_has_no_points() {
     assert_eq!(hexagon(GOOD, 0, 5, 0, &mut marks, &mut points), 0);
     assert_eq!((marks, points), ([0; 25], [0.0; 24]));
 }
+
+#[test]
+fn root_refuses_2_6() {
+    refused_doubles(2, 0, |out| root(-1.0, out));
+    for bad in [-1.0, -f64::MIN_POSITIVE, -5e-324, f64::NAN, f64::INFINITY, f64::NEG_INFINITY] {
+        refused_doubles(6, 1, |out| root(bad, out));
+    }
+    // Squares, the least and the largest double, and the two neighbours of 1: the exact root of the upper one lies halfway but for a hair.
+    for good in [0.0, -0.0, 1.0, 2.0, 4.0, 0.25, 5e-324, f64::MIN_POSITIVE, f64::MAX, 1.0f64.next_up(), 1.0f64.next_down()] {
+        let mut out = [OLD_DOUBLE; 2];
+        assert_eq!(root(good, &mut out), 0);
+        assert_eq!((out[0].to_bits(), out[1]), (good.sqrt().to_bits(), OLD_DOUBLE), "{good}");
+    }
+}
+
+/// A frame that passes its test, whose face 0 has another u and v.
+fn frame_with(u: [f64; 3], v: [f64; 3]) -> [f64; 180] {
+    let mut frame = one_sided_frame();
+    frame[3..6].copy_from_slice(&u);
+    frame[6..9].copy_from_slice(&v);
+    frame
+}
+
+#[test]
+fn sphere_refuses_1_2_3_4_6_8() {
+    let frame = default_frame();
+    for bad in bad_frames() {
+        refused_doubles(1, 3, |out| sphere(&bad, 20, 1, [f64::NAN; 2], out));
+        refused_doubles(1, 2, |out| sphere(&bad, 20, 1, [f64::NAN; 2], out));
+    }
+    refused_doubles(2, 2, |out| sphere(&frame, 20, 1, [f64::NAN; 2], out));
+    refused_doubles(3, 3, |out| sphere(&frame, 20, 1, [f64::NAN; 2], out));
+    refused_doubles(4, 3, |out| sphere(&frame, 19, 1, [f64::NAN; 2], out));
+    refused_doubles(4, 3, |out| sphere(&frame, 19, 18, [f64::NAN; 2], out));
+    for bad in [f64::NAN, f64::INFINITY, f64::NEG_INFINITY, f64::MAX] {
+        refused_doubles(6, 3, |out| sphere(&frame, 19, 16, [bad, 0.0], out));
+        refused_doubles(6, 3, |out| sphere(&frame, 19, 16, [0.0, bad], out));
+    }
+    // u without a length, and so short that its square is zero.
+    for u in [[0.0; 3], [1e-200, 0.0, 0.0]] {
+        refused_doubles(6, 3, |out| sphere(&frame_with(u, [0.0, 1.0, 0.0]), 0, 0, [0.0, 0.0], out));
+    }
+    // u against the centre: x = 3 leads to the middle of the Earth, x = 1.5 just as far as a half, which is taken.
+    let inward = frame_with([0.0, 0.0, -1.0], [0.0, 1.0, 0.0]);
+    refused_doubles(8, 3, |out| sphere(&inward, 0, 0, [3.0, 0.0], out));
+    refused_doubles(8, 3, |out| sphere(&inward, 0, 0, [1.5f64.next_up(), 0.0], out));
+    answers_doubles(&[0.0, 0.0, 1.0], |out| sphere(&inward, 0, 0, [1.5, 0.0], out));
+    // 3·7 units of level 2 are the length of u.
+    answers_doubles(&[1.0 / 2f64.sqrt(), 0.0, 1.0 / 2f64.sqrt()], |out| sphere(&one_sided_frame(), 3, 2, [21.0, 0.0], out));
+    answers_doubles(&[0.0, 0.6, 0.8], |out| sphere(&one_sided_frame(), 3, 0, [0.0, 2.25], out));
+}
+
+type BorderOnSphere = fn(&[f64], Four, u32, u32, u32, &mut [u32], &mut [f64]) -> u32;
+
+fn globe_keeps(
+    border: BorderOnSphere,
+    number: u32,
+    frame: &[f64],
+    centre: Four,
+    level: u32,
+    (start, length): (u32, u32),
+    lent: (usize, usize),
+) {
+    let (mut marks, mut points) = (vec![OLD; lent.0], vec![OLD_DOUBLE; lent.1]);
+    assert_eq!(border(frame, centre, level, start, length, &mut marks, &mut points), number);
+    assert!(marks.iter().all(|&n| n == OLD) && points.iter().all(|&n| n == OLD_DOUBLE));
+}
+
+#[test]
+fn borders_on_the_sphere_refuse_1_2_3_4_5_10_11() {
+    let frame = default_frame();
+    for (border, sides) in [(hexagon_sphere as BorderOnSphere, 6), (pentagon_sphere as BorderOnSphere, 5)] {
+        for bad in bad_frames() {
+            globe_keeps(border, 1, &bad, FACE, 16, (0, 0), (25, 36));
+            globe_keeps(border, 1, &bad, FACE, 16, (0, 0), (0, 0));
+        }
+        globe_keeps(border, 2, &frame, FACE, 16, (0, 0), (24, 36));
+        globe_keeps(border, 2, &frame, FACE, 16, (0, 0), (25, 35));
+        globe_keeps(border, 3, &frame, [20, 1, 1, 1], 16, (0, 0), (25, 36));
+        globe_keeps(border, 4, &frame, UNREDUCED, 16, (sides, 0), (25, 36));
+        globe_keeps(border, 5, &frame, UNREDUCED, 15, (sides, 0), (25, 36));
+        globe_keeps(border, 5, &frame, UNREDUCED, 15, (0, sides + 1), (25, 36));
+        globe_keeps(border, 10, &frame, UNREDUCED, 15, (0, sides), (25, 36));
+        globe_keeps(border, 11, &frame, [0, 3, 0, 0], 0, (0, sides), (25, 36));
+        // u of length zero, on the face of the centre: nothing is asked of it until there is a point.
+        let short = frame_with([0.0; 3], [0.0, 1.0, 0.0]);
+        globe_keeps(border, 6, &short, [0, 0, 0, 0], 0, (0, 1), (25, 36));
+        let (mut marks, mut points) = ([OLD; 25], [OLD_DOUBLE; 36]);
+        assert_eq!(border(&short, [0, 0, 0, 0], 0, 0, 0, &mut marks, &mut points), 0);
+        assert_eq!((marks, points), ([0; 25], [0.0; 36]));
+    }
+    globe_keeps(pentagon_sphere, 12, &frame, [0, 0, 0, 0], 1, (0, 2), (25, 36));
+}
+
+/// u leads inward, so that of the hexagon at the centre one corner is behind, the others are not: whichever part of the border has that
+/// corner is refused.
+#[test]
+fn the_first_refused_point_refuses_the_border() {
+    let inward = frame_with([0.0, 0.0, -1.0], [0.0, 1.0, 0.0]);
+    let asked = |start, length| hexagon_sphere(&inward, [0, 0, 0, 0], 0, start, length, &mut [0; 25], &mut [0.0; 36]);
+    let each: Vec<u32> = (0..6).map(|corner| asked(corner, 1)).collect();
+    for start in 0..6 {
+        for length in 1..=6 {
+            let first = (0..length).map(|n| each[(start + n) as usize % 6]).find(|&number| number != 0).unwrap_or(0);
+            assert_eq!(asked(start, length), first, "{start} {length}: {each:?}");
+        }
+    }
+}
+
+#[test]
+fn borders_on_the_sphere_write_no_more_than_their_length() {
+    for border in [hexagon_sphere as BorderOnSphere, pentagon_sphere as BorderOnSphere] {
+        let (mut marks, mut points) = (vec![OLD; 27], vec![OLD_DOUBLE; 38]);
+        assert_eq!(border(&default_frame(), GOOD, 0, 0, 2, &mut marks, &mut points), 0);
+        assert_eq!(marks[..6], [2, 0, 1, 0, 1, 0]);
+        assert!(marks[5..25].iter().all(|&n| n == 0) && points[6..36].iter().all(|&n| n == 0.0));
+        assert_eq!((&marks[25..], &points[36..]), (&[OLD; 2][..], &[OLD_DOUBLE; 2][..]));
+    }
+}

@@ -69,3 +69,41 @@ fn cells() {
     refuses("border 0 0 1 0 0 6 6", "5 BadRange");
     refuses("pentagon 0 1 0 0 0 0 2", "12 NotAdjacent");
 }
+
+#[test]
+fn the_sphere() {
+    answers("root 2", "1.4142135623730951");
+    answers("root 0.25", "0.5");
+    answers("root -0", "-0");
+    answers("root 5e-324", &format!("0.{}22227587494850775", "0".repeat(161)));
+    answers("sphere 0 0 0 0", "0.2199307791404606 0.6583691780274996 0.7198475378926182");
+    answers("sphere 3 10 63507 -13127.21307056452", "0.5999690033788724 0.000014330225537794448 0.8000232463992577");
+    answers("globe6 3 9 9433 0 4829 0 1", "3 0.5999690033788724 0.000014330225537794448 0.8000232463992577 corner");
+    assert_eq!(asked("globe6 0 1 1 0 0"), asked("globe6 0 1 1 0 0 0 6"));
+    assert_eq!(asked("globe5 0 1 6 0 2"), asked("globe5 0 1 6 0 2 0 5"));
+    assert_eq!(asked("globe5 0 1 6 0 2").1.lines().count(), 10);
+    refuses("root -1", "6 BadNumber");
+    refuses("root inf", "6 BadNumber");
+    refuses("sphere 20 1 nan 0", "3 BadFace");
+    refuses("sphere 0 1 nan 0", "4 BadLevel");
+    refuses("sphere 0 0 nan 0", "6 BadNumber");
+    refuses("sphere 0 0 1e300 0", "6 BadNumber");
+    refuses("globe6 0 0 3 0 0", "11 OutOfFace");
+    refuses("globe5 0 1 0 0 0 0 2", "12 NotAdjacent");
+}
+
+/// Each point of a border on the sphere lies where its plane point does, by the question of one point.
+#[test]
+fn borders_on_both() {
+    for (plane, sphere, cell, grid) in
+        [("border", "globe6", "0 1 1 0 0", 2), ("pentagon", "globe5", "0 1 6 0 2", 2), ("border", "globe6", "3 9 9433 0 4829", 10)]
+    {
+        let (plane, sphere) = (asked(&format!("{plane} {cell}")).1, asked(&format!("{sphere} {cell}")).1);
+        assert_eq!(plane.lines().count(), sphere.lines().count());
+        for (flat, round) in plane.lines().zip(sphere.lines()) {
+            let words: Vec<&str> = flat.split(' ').collect();
+            let vector = asked(&format!("sphere {} {grid} {} {}", words[0], words[1], words[2])).1;
+            assert_eq!(round, format!("{} {} {}", words[0], vector.trim_end(), words[3]));
+        }
+    }
+}

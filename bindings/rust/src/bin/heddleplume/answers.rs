@@ -1,5 +1,6 @@
 //! The answers to single questions, as text.
-use heddleplume::{Boundary, CellLevel, Direction, FaceIJK, Frame, Mark, Refusal, Vec2d, Vec3d, face_direction, locate};
+use heddleplume::{Border, BoundaryPoint, CellLevel, Direction, FaceIJK, Frame, Mark, Refusal, SpherePoint, Vec2d, Vec3d};
+use heddleplume::{face_direction, locate, sphere_point, square_root};
 
 use crate::arguments::Words;
 use crate::failure::Failure;
@@ -12,8 +13,12 @@ pub fn to(name: &str, words: &[String]) -> Answer {
     let answer: fn(&mut Words) -> Answer = match name {
         "place" => place,
         "nearest" => nearest,
-        "border" => |words| border(words, 6, FaceIJK::hexagon_boundary),
-        "pentagon" => |words| border(words, 5, FaceIJK::pentagon_boundary),
+        "border" => |words| border(words, 6, FaceIJK::hexagon_boundary, plane_point_text),
+        "pentagon" => |words| border(words, 5, FaceIJK::pentagon_boundary, plane_point_text),
+        "globe6" => |words| border(words, 6, on_default(FaceIJK::hexagon_on_sphere), sphere_point_text),
+        "globe5" => |words| border(words, 5, on_default(FaceIJK::pentagon_on_sphere), sphere_point_text),
+        "sphere" => sphere,
+        "root" => root,
         "corners" => corners,
         "round" => round,
         "centre" => centre,
@@ -51,16 +56,60 @@ fn nearest(words: &mut Words) -> Answer {
     Ok(format!("{face} {distance}"))
 }
 
+fn vector_text(vector: Vec3d) -> String {
+    format!("{} {} {}", vector.x, vector.y, vector.z)
+}
+
+fn mark_text(mark: Mark) -> &'static str {
+    if mark == Mark::Corner { "corner" } else { "crossing" }
+}
+
+fn plane_point_text(point: &BoundaryPoint) -> String {
+    format!("{} {} {} {}", point.face, point.x, point.y, mark_text(point.mark))
+}
+
+fn sphere_point_text(point: &SpherePoint) -> String {
+    format!("{} {} {}", point.face, vector_text(point.vector), mark_text(point.mark))
+}
+
+/// A border on the sphere, on the default frame.
+fn on_default<P>(
+    ask: fn(FaceIJK, &Frame, CellLevel, u32, u32) -> Result<Border<P>, Refusal>,
+) -> impl Fn(FaceIJK, CellLevel, u32, u32) -> Result<Border<P>, Refusal> {
+    move |place, level, start, length| ask(place, &Frame::default(), level, start, length)
+}
+
 /// A border from its first corner on, or the part that is asked for.
-fn border(words: &mut Words, all: u32, ask: fn(FaceIJK, CellLevel, u32, u32) -> Result<Boundary, Refusal>) -> Answer {
+fn border<P>(
+    words: &mut Words,
+    all: u32,
+    ask: impl Fn(FaceIJK, CellLevel, u32, u32) -> Result<Border<P>, Refusal>,
+    text: fn(&P) -> String,
+) -> Answer {
     let (place, level) = words.place(Words::cell_level)?;
     let (start, length) = if words.is_empty() { (0, all) } else { (words.number("START")?, words.number("LENGTH")?) };
     words.end()?;
-    let lines: Vec<String> = ask(place, level, start, length)?
-        .iter()
-        .map(|point| format!("{} {} {} {}", point.face, point.x, point.y, if point.mark == Mark::Corner { "corner" } else { "crossing" }))
-        .collect();
+    let lines: Vec<String> = ask(place, level, start, length)?.iter().map(text).collect();
     Ok(lines.join("\n"))
+}
+
+/// No receiver is behind these questions, so that a bad number has another reason.
+fn no_number(refusal: Refusal, advice: &'static str) -> Failure {
+    if refusal == Refusal::BadNumber { Failure::Advised(refusal, advice) } else { refusal.into() }
+}
+
+fn sphere(words: &mut Words) -> Answer {
+    let (face, level, point) = (words.number("FACE")?, words.grid_level()?, words.point()?);
+    words.end()?;
+    let lifted = sphere_point(&Frame::default(), face, level, point);
+    Ok(vector_text(lifted.map_err(|refusal| no_number(refusal, "pass a finite point that lies on its face or near it"))?))
+}
+
+fn root(words: &mut Words) -> Answer {
+    let number = words.double("X")?;
+    words.end()?;
+    let root = square_root(number).map_err(|refusal| no_number(refusal, "pass a finite number from 0 up"))?;
+    Ok(root.to_string())
 }
 
 fn corners(words: &mut Words) -> Answer {

@@ -42,9 +42,13 @@ impl<'a> Words<'a> {
         self.number("LEVEL").map(CellLevel)
     }
 
+    pub fn grid_level(&mut self) -> Result<GridLevel, Failure> {
+        self.number("LEVEL").map(GridLevel)
+    }
+
     /// A grid level and which of its grids.
     pub fn grid(&mut self) -> Result<(GridLevel, Grid), Failure> {
-        Ok((GridLevel(self.number("LEVEL")?), self.one_of([("p", Grid::Plain), ("s", Grid::Substrate)])?))
+        Ok((self.grid_level()?, self.one_of([("p", Grid::Plain), ("s", Grid::Substrate)])?))
     }
 
     pub fn coord(&mut self) -> Result<CoordIJK, Failure> {

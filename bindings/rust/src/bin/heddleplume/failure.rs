@@ -12,6 +12,8 @@ pub enum Failure {
     Usage(String),
     /// The library refused the question, or the whole batch.
     Refused(Refusal),
+    /// The same, where the question has an advice of its own.
+    Advised(Refusal, &'static str),
     /// The input could not be read.
     Read(io::Error),
     /// The output could not be written.
@@ -22,7 +24,7 @@ impl Failure {
     pub fn status(&self) -> u8 {
         match self {
             Failure::Usage(_) => 2,
-            Failure::Refused(_) | Failure::Read(_) | Failure::Written(_) => 1,
+            Failure::Refused(_) | Failure::Advised(..) | Failure::Read(_) | Failure::Written(_) => 1,
         }
     }
 
@@ -46,6 +48,7 @@ impl fmt::Display for Failure {
         match self {
             Failure::Usage(what) => write!(f, "{what}\n`heddleplume --help` lists the questions and how numbers are written"),
             Failure::Refused(refusal) => write!(f, "{refusal}"),
+            Failure::Advised(refusal, advice) => write!(f, "refused {} {refusal:?}: {advice}", refusal.number()),
             Failure::Read(error) => write!(f, "the input could not be read, so the answers are not whole: {error}"),
             Failure::Written(error) if error.kind() == ErrorKind::BrokenPipe => {
                 write!(f, "the output is not whole: the program that reads it has stopped")

@@ -15,11 +15,20 @@ const fn entry(name: &'static str, form: &'static str, example: &'static str, an
     Entry { name, form, example, answer }
 }
 
-static ENTRIES: [Entry; 15] = [
+static ENTRIES: [Entry; 19] = [
     entry("place", "LEVEL X Y Z", "9 0.6 0 0.8", "face i j k: the place of a unit vector"),
     entry("nearest", "X Y Z", "0.6 0 0.8", "the nearest face, and the squared distance from its centre"),
     entry("border", "FACE LEVEL I J K [START LENGTH]", "0 1 1 0 0", "a hexagon's border: face x y corner|crossing of each point"),
     entry("pentagon", "FACE LEVEL I J K [START LENGTH]", "0 1 6 0 2", "a pentagon's border, in the same form"),
+    entry(
+        "globe6",
+        "FACE LEVEL I J K [START LENGTH]",
+        "0 1 1 0 0",
+        "a hexagon's border on the sphere: face x y z corner|crossing of each point",
+    ),
+    entry("globe5", "FACE LEVEL I J K [START LENGTH]", "0 1 6 0 2", "a pentagon's border on the sphere, in the same form"),
+    entry("sphere", "FACE LEVEL X Y", "3 10 63507 -13127.21307056452", "x y z: a plane point of a face as a unit vector"),
+    entry("root", "X", "2", "the square root, the nearest double"),
     entry("corners", "FACE LEVEL I J K", "0 0 1 0 0", "the grid level of a cell's corners, then i j k of each of the six"),
     entry("round", "X Y", "0.5 -0.5", "i j k: the hexagon of a plane point"),
     entry("centre", "I J K", "1 1 0", "x y: the centre of a hexagon"),
@@ -47,9 +56,9 @@ const BOTTOM: &str = "
 A vector has length 1. Of a latitude and a longitude it is
   x = cos(lat) cos(lon), y = cos(lat) sin(lon), z = sin(lat)
 Doubles are decimals, as 0.6, -1e-3 or nan. The nearest double is taken; the shortest decimal that reads back
-as the same double is answered. LEVEL is a cell level 0..15, in step, cross and settle an even grid level
-0..16. p is the grid of the cells, s that of their corners. A border has all corners of the cell, or LENGTH
-of them from corner START on; each point has a line of its own.
+as the same double is answered. LEVEL is a cell level 0..15, in step, cross, settle and sphere an even grid
+level 0..16. p is the grid of the cells, s that of their corners, on which the points of a border lie. A border
+has all corners of the cell, or LENGTH of them from corner START on; each point has a line of its own.
 
 batch answers each line x,y,z by one line, in order. Each has four columns:
   9,0,3944,11640          face,i,j,k
