@@ -1,8 +1,9 @@
--- Laws of `locate`: places given out, rows of a batch one by one, unique answers.
+-- Laws of `locate`: places given out, vectors that pass, rows of a batch one by one, unique answers.
 pub mod Entering
 pub mod Signed
 pub mod Placing
 pub mod Giving
+pub mod UnitVectors
 pub mod Near
 pub mod Writing
 pub mod RowByRow
