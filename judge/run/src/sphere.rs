@@ -60,7 +60,7 @@ fn tangent(grid: u32, (x, y): Point) -> f64 {
 }
 
 /// How far apart the points of the two sides may lie: (2 + 10·s)·2^-50, s the sine of the angle from the face's centre.
-/// docs/DIFFERENCES.md counts the roundings: 13 + 79·s of 2^-53 at most.
+/// docs/DIFFERENCES.md counts the roundings: 12.5 + 76·s of 2^-53 at most.
 pub fn tolerance(grid: u32, point: Point) -> f64 {
     let t = tangent(grid, point);
     (2. + 10. * t / t.hypot(1.)) * 4. * f64::EPSILON
@@ -96,13 +96,10 @@ impl Seen {
     }
 }
 
-/// The source's squares overflow beyond this, and its answer is no number.
-const FARTHEST: f64 = 1e150;
+/// Beyond this the source's squares overflow.
+const FARTHEST: f64 = 1.3407e154;
 
 fn beside_rust(tally: &mut Tally, seen: &mut Seen, face: u32, grid: u32, point: Point, v: Vector) {
-    if point.0.abs().max(point.1.abs()) > FARTHEST {
-        return;
-    }
     let far = apart(v, rust_point(face, grid, point));
     let within = seen.all.note(far, tolerance(grid, point));
     seen.compared += 1;
@@ -124,10 +121,11 @@ fn taken(tally: &mut Tally, frame: &Frame, level: u32, v: Vector) {
 fn sphere(tally: &mut Tally, seen: &mut Seen, frame: &Frame, face: u32, grid: u32, point: Point) {
     let rule = by_rule(frame, face, grid, point);
     tally.same(ours::sphere(&frame.numbers, face, grid, point), said(rule), || format!("sphere {face} {grid} {point:?}"));
-    let Ok(v) = rule else { return };
-    taken(tally, frame, grid.min(15), v);
-    if frame.default {
-        beside_rust(tally, seen, face, grid, point, v);
+    if let Ok(v) = rule {
+        taken(tally, frame, grid.min(15), v);
+        if frame.default && point.0.hypot(point.1) < FARTHEST {
+            beside_rust(tally, seen, face, grid, point, v);
+        }
     }
 }
 
@@ -208,7 +206,16 @@ pub fn wild_frames() -> Vec<Frame> {
     (0..100).map(frame).collect()
 }
 
+/// The Rust gives the zero vector for a point that is no number or too far off.
+fn nowhere(tally: &mut Tally) {
+    for point in [(f64::NAN, 0.), (0., f64::INFINITY), (1e160, 0.), (0., -1.35e154)] {
+        let v = rust_point(0, 16, point);
+        tally.holds(v == [0.; 3], || format!("from_vec2d {point:?}: {v:?}"));
+    }
+}
+
 pub fn run(tally: &mut Tally) {
+    nowhere(tally);
     let (frame, wild, others) = (Frame::default(), wild_frames(), vectors::other_frames());
     let (mut c, mut seen) = (Chance(27), Seen::default());
     for grid in (0..17).step_by(2) {
