@@ -60,7 +60,7 @@ fn tangent(grid: u32, (x, y): Point) -> f64 {
 }
 
 /// How far apart the points of the two sides may lie: (2 + 10·s)·2^-50, s the sine of the angle from the face's centre.
-/// docs/DIFFERENCES.md counts the roundings: 12.5 + 76·s of 2^-53 at most.
+/// docs/DIFFERENCES.md counts the roundings: 12.5 + 76.2·s of 2^-53 at most.
 pub fn tolerance(grid: u32, point: Point) -> f64 {
     let t = tangent(grid, point);
     (2. + 10. * t / t.hypot(1.)) * 4. * f64::EPSILON
