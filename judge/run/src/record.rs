@@ -1,8 +1,9 @@
 //! Writes the sample of `ask_main`: questions as lines, and beside them the oracle's answers. The proved library is asked
 //! nothing here, so that a sample never repeats a mistake of its own.
 use crate::borders::{self, HEXAGON, PENTAGON, Part, Shape};
+use crate::globe::{self, HEXAGON_SPHERE, Outline, PENTAGON_SPHERE};
 use crate::ours::{At, Border, Globe, Said, Vector};
-use crate::{chance::Chance, globe, places, plane, root, round, sphere, vectors, vectors::Frame};
+use crate::{chance::Chance, places, plane, root, round, sphere, vectors, vectors::Frame};
 use std::fs;
 use std::path::Path;
 
@@ -175,10 +176,10 @@ fn ask_sphere(c: &mut Chance, face: u32, level: u32, (x, y): (f64, f64)) -> Entr
     Entry::new(format!("sphere {face} {level} {}", doubles(c, [x, y])), said, |v| joined(v.map(bits)))
 }
 
-fn ask_globe((name, shape): (&str, &Shape), at: At, level: u32, part: Part) -> Entry {
+fn ask_globe(outline: &Outline, at: At, level: u32, part: Part) -> Entry {
     let ((f, i, j, k), (start, length)) = (at, part);
-    let said: Globe = globe::oracle(shape, &Frame::default(), at, level, part);
-    Entry::new(format!("{name} {f} {level} {i} {j} {k} {start} {length}"), said, outlined_on_sphere)
+    let said: Globe = globe::oracle(outline.plane, &Frame::default(), at, level, part);
+    Entry::new(format!("{} {f} {level} {i} {j} {k} {start} {length}", outline.name), said, outlined_on_sphere)
 }
 
 // The judge's own mixes.
@@ -314,12 +315,12 @@ fn draw_sphere(c: &mut Chance) -> Option<Entry> {
 
 fn draw_globe6(c: &mut Chance) -> Option<Entry> {
     let (at, level, part) = draw_six(c);
-    Some(ask_globe(("globe6", &HEXAGON), at, level, part))
+    Some(ask_globe(&HEXAGON_SPHERE, at, level, part))
 }
 
 fn draw_globe5(c: &mut Chance) -> Option<Entry> {
     let (at, level, part) = draw_five(c);
-    Some(ask_globe(("globe5", &PENTAGON), at, level, part))
+    Some(ask_globe(&PENTAGON_SPHERE, at, level, part))
 }
 
 /// A question: its name, the refusals that it can give, and how one is drawn.
