@@ -1,7 +1,7 @@
 //! The four files of h3o 0.11.1 that were ported, compiled unchanged from docs/src over shims for what is not in the text given.
 //!
-//! `coord` has them as they are; `plane` has `faceijk.rs` once more, with a `Vec3d` that notes each plane point just before its
-//! projection, which is what a boundary of the port holds.
+//! `coord` has them as they are, and its boundaries lie on the sphere; `plane` has `faceijk.rs` once more, with a `Vec3d` that
+//! notes each plane point just before its projection, which is what a boundary of the port holds on the plane.
 #![allow(dead_code, unexpected_cfgs, unfulfilled_lint_expectations, clippy::all)]
 
 mod base_cell;

@@ -1,5 +1,5 @@
 //! Times both sides in one process on the same inputs: nanoseconds for an answer, best and median of the passes.
-use crate::{borders, chance::Chance, ours::{At, Outline, Vector, bare}, places, vectors};
+use crate::{borders, chance::Chance, ours::{At, Outline, SphereOutline, Vector, bare}, places, sphere, vectors};
 use h3o::coord::{CoordIJK, FaceIJK, Vec2d, Vec3d};
 use h3o::face::FRAME;
 use h3o::{Boundary, ExtendedResolution, Face, Resolution, Vertex, plane};
@@ -210,7 +210,8 @@ fn boundary(name: &str, cells: &[At], level: u32, sides: u32, (ours, theirs): (O
     );
 }
 
-fn hexagons(name: &str, level: u32) {
+/// Cells of uniform vectors.
+fn cells(level: u32) -> Vec<At> {
     let cell = |v: Vector| {
         let p = FaceIJK::from_vec3d(vec3d(v), Resolution(level as u8));
         (usize::from(p.face) as u32, p.coord.i() as u32, p.coord.j() as u32, p.coord.k() as u32)
@@ -220,19 +221,98 @@ fn hexagons(name: &str, level: u32) {
         let (s, m) = borders::sum_and_limit(at, level);
         s <= m
     };
-    let cells: Vec<At> = uniform(MANY).into_iter().map(cell).filter(inside).collect();
-    boundary(name, &cells, level, 6, (bare::hexagon, plane::FaceIJK::hexagon_boundary));
+    uniform(MANY).into_iter().map(cell).filter(inside).collect()
+}
+
+fn hexagons(name: &str, level: u32) {
+    boundary(name, &cells(level), level, 6, (bare::hexagon, plane::FaceIJK::hexagon_boundary));
 }
 
 /// At an odd level the source answers of a pentagon that is named by the corner on its face's i-axis, and of no other.
-fn pentagons() {
+fn pentagon_cells() -> Vec<At> {
     let centres: Vec<At> = (0..20).map(|face| borders::pentagon_centre(face, 0, 9)).collect();
-    let cells: Vec<At> = centres.into_iter().cycle().take(MANY).collect();
-    boundary("pentagon boundary, level 9", &cells, 9, 5, (bare::pentagon, plane::FaceIJK::pentagon_boundary));
+    centres.into_iter().cycle().take(MANY).collect()
+}
+
+fn pentagons() {
+    boundary("pentagon boundary, level 9", &pentagon_cells(), 9, 5, (bare::pentagon, plane::FaceIJK::pentagon_boundary));
+}
+
+/// The source's method for a whole boundary, with its projection.
+type Projected = fn(&FaceIJK, Resolution, Vertex, u8) -> Boundary;
+
+fn globe(name: &str, cells: &[At], sides: u32, (ours, theirs): (SphereOutline, Projected)) {
+    let places: Vec<FaceIJK> = cells.iter().map(|&at| places::place(at)).collect();
+    row(
+        name, cells.len(),
+        || {
+            for &at in cells {
+                let (mut marks, mut points) = ([0u32; 25], [0f64; 36]);
+                assert_eq!(ours(&FRAME, at, 9, (0, sides), &mut marks, &mut points), 0);
+                black_box((&marks, &points));
+            }
+        },
+        || {
+            for p in &places {
+                black_box(theirs(p, Resolution(black_box(9)), Vertex(black_box(0)), black_box(sides as u8)));
+            }
+        },
+    );
+}
+
+fn hexagons_on_sphere() {
+    globe("hexagon boundary on the sphere, level 9", &cells(9), 6, (bare::hexagon_sphere, FaceIJK::hexagon_boundary));
+}
+
+fn pentagons_on_sphere() {
+    globe("pentagon boundary on the sphere, level 9", &pentagon_cells(), 5, (bare::pentagon_sphere, FaceIJK::pentagon_boundary));
+}
+
+/// One point of a face a call, as a drawing asks for it.
+fn point_on_sphere() {
+    let mut chance = Chance(32);
+    let points: Vec<(u32, (f64, f64))> = (0..MANY).map(|_| (chance.below(20) as u32, sphere::inner_point(&mut chance, 10))).collect();
+    row(
+        "point on the sphere, level 10", MANY,
+        || {
+            for &(face, point) in &points {
+                let mut out = [0f64; 3];
+                black_box(bare::sphere(&FRAME, face, 10, point, &mut out));
+                black_box(out);
+            }
+        },
+        || {
+            for &(face, (x, y)) in &points {
+                let (at, level) = (Vec2d::new(x, y), ExtendedResolution(black_box(10)));
+                black_box(Vec3d::from_vec2d(at, Face::new_unchecked(face), level, black_box(true)));
+            }
+        },
+    );
+}
+
+/// The machine's own root has an instruction.
+fn root() {
+    let mut chance = Chance(33);
+    let numbers: Vec<f64> = (0..MANY).map(|_| f64::from_bits(chance.below(2047 << 52))).collect();
+    row(
+        "root", MANY,
+        || {
+            for &x in &numbers {
+                let mut out = [0f64];
+                black_box(bare::root(x, &mut out));
+                black_box(out);
+            }
+        },
+        || {
+            for &x in &numbers {
+                black_box(black_box(x).sqrt());
+            }
+        },
+    );
 }
 
 /// The table's rows in their order, each under the question's name.
-const ROWS: [(&str, fn()); 10] = [
+const ROWS: [(&str, fn()); 14] = [
     ("place", place),
     ("place", place_one),
     ("round", round),
@@ -243,6 +323,10 @@ const ROWS: [(&str, fn()); 10] = [
     ("hexagon", || hexagons("hexagon boundary, level 8", 8)),
     ("hexagon", || hexagons("hexagon boundary, level 9", 9)),
     ("pentagon", pentagons),
+    ("hexagon sphere", hexagons_on_sphere),
+    ("pentagon sphere", pentagons_on_sphere),
+    ("sphere", point_on_sphere),
+    ("root", root),
 ];
 
 /// Prints the table, or its rows for the questions named.

@@ -9,7 +9,7 @@ use std::panic;
 /// What is walked round: the C function, the source's, and how many sides it has.
 pub struct Shape {
     pub name: &'static str,
-    sides: u32,
+    pub sides: u32,
     ours: ours::Outline,
     theirs: fn(&plane::FaceIJK, Resolution, Vertex, u8) -> Boundary,
 }
@@ -94,8 +94,8 @@ fn numbers(b: &Boundary) -> [u64; 49] {
         0 => b.count as u64,
         1..25 => {
             let (p, used) = (b.points[(n - 1) / 2], (n - 1) / 2 < b.count);
-            let mark = if !used { 0 } else if p.corner { 1 } else { 2 };
-            if n % 2 == 1 { p.face.into() } else { mark }
+            let mark = if !used { 0 } else if p.corner() { 1 } else { 2 };
+            if n % 2 == 1 { p.face().into() } else { mark }
         }
         _ => {
             let p = b.points[(n - 25) / 2];
@@ -238,26 +238,31 @@ pub fn some_part(c: &mut Chance, shape: &Shape) -> Part {
     }
 }
 
-fn run(tally: &mut Tally, shape: &Shape, chance: u64, many: u64) {
-    let mut crossed = 0;
+/// Asks of the corners of all faces, of the cells near a face's centre at coarse levels, and of many by chance.
+pub fn each(shape: &Shape, chance: u64, many: u64, mut ask: impl FnMut(At, u32, Part)) {
     for level in 0..17 {
         for face in 0..20 {
             for axis in 0..3 {
                 let at = pentagon_centre(face, axis, level);
-                all_parts(shape).for_each(|part| border(tally, &mut crossed, shape, at, level, part));
+                all_parts(shape).for_each(|part| ask(at, level, part));
             }
         }
     }
     for (level, n) in [(0, 3), (1, 7), (2, 8), (3, 12)] {
-        places::each(n, |at| border(tally, &mut crossed, shape, at, level, (0, shape.sides)));
+        places::each(n, |at| ask(at, level, (0, shape.sides)));
     }
     let mut c = Chance(chance);
     for _ in 0..many {
         let level = some_level(&mut c);
         let at = some_cell(&mut c, level);
         let part = some_part(&mut c, shape);
-        border(tally, &mut crossed, shape, at, level, part);
+        ask(at, level, part);
     }
+}
+
+fn run(tally: &mut Tally, shape: &Shape, chance: u64, many: u64) {
+    let mut crossed = 0;
+    each(shape, chance, many, |at, level, part| border(tally, &mut crossed, shape, at, level, part));
     println!("  {crossed} with crossing points");
 }
 

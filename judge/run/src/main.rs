@@ -2,13 +2,16 @@
 mod bench;
 mod borders;
 mod chance;
+mod globe;
 mod grids;
 mod ours;
 mod places;
 mod plane;
 mod record;
+mod root;
 mod round;
 mod short;
+mod sphere;
 mod vectors;
 
 use std::path::Path;
@@ -52,7 +55,7 @@ impl Tally {
 /// A question's name and who asks it.
 type Question = (&'static str, fn(&mut Tally));
 
-const QUESTIONS: [Question; 23] = [
+const QUESTIONS: [Question; 27] = [
     ("raise", grids::run_raise),
     ("grid", grids::run_grid),
     ("reduce", grids::run_reduce),
@@ -76,6 +79,10 @@ const QUESTIONS: [Question; 23] = [
     ("corners", borders::run_corners),
     ("hexagon", borders::run_hexagon),
     ("pentagon", borders::run_pentagon),
+    ("root", root::run),
+    ("sphere", sphere::run),
+    ("hexagon sphere", globe::run_hexagon),
+    ("pentagon sphere", globe::run_pentagon),
 ];
 
 /// Where the sample of `ask_main` lies, from the top of the repository.

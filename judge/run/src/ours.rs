@@ -36,6 +36,18 @@ unsafe extern "C" {
         face: u32, i: u32, j: u32, k: u32, level: u32, start: u32, length: u32, marks: *mut u32, marks_len: usize, points: *mut f64, points_len: usize,
     ) -> u32;
     fn heddleplume_frame(out: *mut f64, len: usize) -> u32;
+    fn heddleplume_root(x: f64, out: *mut f64, len: usize) -> u32;
+    fn heddleplume_sphere(
+        frame: *const f64, frame_len: usize, face: u32, level: u32, x: f64, y: f64, out: *mut f64, len: usize,
+    ) -> u32;
+    fn heddleplume_hexagon_sphere(
+        frame: *const f64, frame_len: usize, face: u32, i: u32, j: u32, k: u32, level: u32, start: u32, length: u32, marks: *mut u32,
+        marks_len: usize, points: *mut f64, points_len: usize,
+    ) -> u32;
+    fn heddleplume_pentagon_sphere(
+        frame: *const f64, frame_len: usize, face: u32, i: u32, j: u32, k: u32, level: u32, start: u32, length: u32, marks: *mut u32,
+        marks_len: usize, points: *mut f64, points_len: usize,
+    ) -> u32;
 }
 
 /// The C functions over slices of any length.
@@ -111,6 +123,24 @@ pub mod bare {
     }
     pub fn frame(out: &mut [f64]) -> u32 {
         unsafe { heddleplume_frame(out.as_mut_ptr(), out.len()) }
+    }
+    pub fn root(x: f64, out: &mut [f64]) -> u32 {
+        unsafe { heddleplume_root(x, out.as_mut_ptr(), out.len()) }
+    }
+    pub fn sphere(frame: &[f64], face: u32, level: u32, (x, y): (f64, f64), out: &mut [f64]) -> u32 {
+        unsafe { heddleplume_sphere(frame.as_ptr(), frame.len(), face, level, x, y, out.as_mut_ptr(), out.len()) }
+    }
+    pub fn hexagon_sphere(
+        frame: &[f64], (f, i, j, k): At, level: u32, (start, length): (u32, u32), marks: &mut [u32], points: &mut [f64],
+    ) -> u32 {
+        let (a, m, p) = ((frame.as_ptr(), frame.len()), (marks.as_mut_ptr(), marks.len()), (points.as_mut_ptr(), points.len()));
+        unsafe { heddleplume_hexagon_sphere(a.0, a.1, f, i, j, k, level, start, length, m.0, m.1, p.0, p.1) }
+    }
+    pub fn pentagon_sphere(
+        frame: &[f64], (f, i, j, k): At, level: u32, (start, length): (u32, u32), marks: &mut [u32], points: &mut [f64],
+    ) -> u32 {
+        let (a, m, p) = ((frame.as_ptr(), frame.len()), (marks.as_mut_ptr(), marks.len()), (points.as_mut_ptr(), points.len()));
+        unsafe { heddleplume_pentagon_sphere(a.0, a.1, f, i, j, k, level, start, length, m.0, m.1, p.0, p.1) }
     }
 }
 
@@ -263,4 +293,26 @@ pub fn border(outline: Outline, at: At, level: u32, part: (u32, u32)) -> Border 
 
 pub fn frame() -> Said<180> {
     asked_doubles::<180, 181>(bare::frame)
+}
+
+pub fn root(x: f64) -> Said<1> {
+    asked_doubles::<1, 2>(|out| bare::root(x, out))
+}
+
+pub fn sphere(frame: &[f64], face: u32, level: u32, point: (f64, f64)) -> Said<3> {
+    asked_doubles::<3, 4>(|out| bare::sphere(frame, face, level, point, out))
+}
+
+/// The marks (count, then face and mark twelve times), and the bits of the points on the sphere (x, y and z twelve times).
+pub type Globe = Said<61>;
+
+/// One of `bare::hexagon_sphere` and `bare::pentagon_sphere`.
+pub type SphereOutline = fn(&[f64], At, u32, (u32, u32), &mut [u32], &mut [f64]) -> u32;
+
+pub fn globe(outline: SphereOutline, frame: &[f64], at: At, level: u32, part: (u32, u32)) -> Globe {
+    let mut marks = [UNTOUCHED; 26];
+    let points = asked_doubles::<36, 37>(|out| outline(frame, at, level, part, &mut marks, out));
+    assert_eq!(marks[25], UNTOUCHED, "an element past the marks was written");
+    let value = |n: usize| if n < 25 { marks[n].into() } else { points.values[n - 25] };
+    Said { number: points.number, values: std::array::from_fn(value) }
 }

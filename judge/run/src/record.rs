@@ -1,8 +1,9 @@
 //! Writes the sample of `ask_main`: questions as lines, and beside them the oracle's answers. The proved library is asked
 //! nothing here, so that a sample never repeats a mistake of its own.
 use crate::borders::{self, HEXAGON, PENTAGON, Part, Shape};
-use crate::ours::{At, Border, Said, Vector};
-use crate::{chance::Chance, places, plane, round, vectors, vectors::Frame};
+use crate::globe::{self, HEXAGON_SPHERE, Outline, PENTAGON_SPHERE};
+use crate::ours::{At, Border, Globe, Said, Vector};
+use crate::{chance::Chance, places, plane, root, round, sphere, vectors, vectors::Frame};
 use std::fs;
 use std::path::Path;
 
@@ -63,6 +64,14 @@ fn yes_or_no([same]: [u64; 1]) -> String {
 fn outlined(values: [u64; 49]) -> String {
     let mark = |n: usize| ["corner", "crossing"][values[2 * n + 2] as usize - 1];
     let point = |n: usize| format!(" {} {} {} {}", values[2 * n + 1], bits(values[2 * n + 25]), bits(values[2 * n + 26]), mark(n));
+    let count = values[0] as usize;
+    (0..count).map(point).fold(count.to_string(), |all, one| all + &one)
+}
+
+/// The same on the sphere, where `Globe` tells the order.
+fn outlined_on_sphere(values: [u64; 61]) -> String {
+    let mark = |n: usize| ["corner", "crossing"][values[2 * n + 2] as usize - 1];
+    let point = |n: usize| format!(" {} {} {}", values[2 * n + 1], joined(values[3 * n + 25..3 * n + 28].iter().map(|&x| bits(x))), mark(n));
     let count = values[0] as usize;
     (0..count).map(point).fold(count.to_string(), |all, one| all + &one)
 }
@@ -158,6 +167,21 @@ fn ask_border(shape: &Shape, at: At, level: u32, part: Part) -> Entry {
     Entry::new(format!("{} {f} {level} {i} {j} {k} {start} {length}", shape.name), said, outlined)
 }
 
+fn ask_root(c: &mut Chance, x: f64) -> Entry {
+    Entry::new(format!("root {}", double(c, x)), root::oracle(x), |r| joined(r.map(bits)))
+}
+
+fn ask_sphere(c: &mut Chance, face: u32, level: u32, (x, y): (f64, f64)) -> Entry {
+    let said = sphere::oracle(&Frame::default(), face, level, (x, y));
+    Entry::new(format!("sphere {face} {level} {}", doubles(c, [x, y])), said, |v| joined(v.map(bits)))
+}
+
+fn ask_globe(outline: &Outline, at: At, level: u32, part: Part) -> Entry {
+    let ((f, i, j, k), (start, length)) = (at, part);
+    let said: Globe = globe::oracle(outline.plane, &Frame::default(), at, level, part);
+    Entry::new(format!("{} {f} {level} {i} {j} {k} {start} {length}", outline.name), said, outlined_on_sphere)
+}
+
 // The judge's own mixes.
 
 /// Now and then one number that has more than a byte, or the highest bits: a line can say it as well as any other.
@@ -246,31 +270,64 @@ fn draw_corners(c: &mut Chance) -> Option<Entry> {
     Some(ask_corners((f, i, j, k), level))
 }
 
-fn draw_border(c: &mut Chance, shape: &Shape, level: u32, (f, i, j, k): At) -> Option<Entry> {
+/// A cell and a part of its boundary.
+fn draw_part(c: &mut Chance, shape: &Shape, level: u32, (f, i, j, k): At) -> (At, u32, Part) {
     let (start, length) = borders::some_part(c, shape);
     let [f, i, j, k, level, start, length] = strange(c, [f, i, j, k, level, start, length]);
-    Some(ask_border(shape, (f, i, j, k), level, (start, length)))
+    ((f, i, j, k), level, (start, length))
 }
 
-fn draw_hexagon(c: &mut Chance) -> Option<Entry> {
+fn draw_six(c: &mut Chance) -> (At, u32, Part) {
     let level = borders::some_level(c);
     let at = borders::some_cell(c, level);
-    draw_border(c, &HEXAGON, level, at)
+    draw_part(c, &HEXAGON, level, at)
 }
 
 /// One in three lies where a pentagon does: elsewhere few have crossing points.
-fn draw_pentagon(c: &mut Chance) -> Option<Entry> {
+fn draw_five(c: &mut Chance) -> (At, u32, Part) {
     let level = borders::some_level(c);
     let real = c.below(3) == 0;
     let at = if real { borders::pentagon_centre(c.below(20) as u32, c.below(3), level.min(15)) } else { borders::some_cell(c, level) };
-    draw_border(c, &PENTAGON, level, at)
+    draw_part(c, &PENTAGON, level, at)
+}
+
+fn draw_hexagon(c: &mut Chance) -> Option<Entry> {
+    let (at, level, part) = draw_six(c);
+    Some(ask_border(&HEXAGON, at, level, part))
+}
+
+fn draw_pentagon(c: &mut Chance) -> Option<Entry> {
+    let (at, level, part) = draw_five(c);
+    Some(ask_border(&PENTAGON, at, level, part))
+}
+
+fn draw_root(c: &mut Chance) -> Option<Entry> {
+    let x = root::some_number(c);
+    Some(ask_root(c, x))
+}
+
+fn draw_sphere(c: &mut Chance) -> Option<Entry> {
+    let (face, level) = (sphere::some_face(c), places::some_level(c));
+    let point = sphere::some_point(c, level);
+    let [face, level] = strange(c, [face, level]);
+    Some(ask_sphere(c, face, level, point))
+}
+
+fn draw_globe6(c: &mut Chance) -> Option<Entry> {
+    let (at, level, part) = draw_six(c);
+    Some(ask_globe(&HEXAGON_SPHERE, at, level, part))
+}
+
+fn draw_globe5(c: &mut Chance) -> Option<Entry> {
+    let (at, level, part) = draw_five(c);
+    Some(ask_globe(&PENTAGON_SPHERE, at, level, part))
 }
 
 /// A question: its name, the refusals that it can give, and how one is drawn.
 type Kind = (&'static str, &'static [usize], fn(&mut Chance) -> Option<Entry>);
 
-/// With the default frame, 1, 2, 8 and 9 are out of reach of `nearest` and `place`.
-const KINDS: [Kind; 14] = [
+/// With the default frame, 1, 2, 8 and 9 are out of reach of `nearest` and `place`, and 8 of points on the sphere.
+const KINDS: [Kind; 18] = [
     ("round", &[6, 9], draw_round),
     ("centre", &[10], draw_centre),
     ("meet", &[6, 13], draw_meet),
@@ -285,6 +342,10 @@ const KINDS: [Kind; 14] = [
     ("corners", &[3, 4, 10], draw_corners),
     ("hexagon", &[3, 4, 5, 10, 11], draw_hexagon),
     ("pentagon", &[3, 4, 5, 10, 11, 12], draw_pentagon),
+    ("root", &[6], draw_root),
+    ("sphere", &[3, 4, 6], draw_sphere),
+    ("globe6", &[3, 4, 5, 10, 11], draw_globe6),
+    ("globe5", &[3, 4, 5, 10, 11, 12], draw_globe5),
 ];
 
 /// Draws questions of one kind. The last places are kept for the refusals that are still to come.
@@ -347,6 +408,20 @@ fn checked_places() -> Vec<Entry> {
     checked_rounding().into_iter().chain(checked_crossing()).chain(checked_corners()).chain([walk]).collect()
 }
 
+/// Roots and points on the sphere, as their lines are written.
+fn checked_globe() -> Vec<Entry> {
+    let mut c = Chance(SEED - 3);
+    let roots = [
+        ("root 4", 4., "4000000000000000"), ("root 2", 2., "3ff6a09e667f3bcd"), ("root 0", 0., "0000000000000000"),
+        ("root -0", -0., "8000000000000000"), ("root -1", -1., "refused 6 BadNumber"), ("root 7ff0000000000000", f64::INFINITY, "refused 6 BadNumber"),
+    ];
+    let spheres = [("sphere 20 0 0 0", 20, 0, "refused 3 BadFace"), ("sphere 0 1 0 0", 0, 1, "refused 4 BadLevel")];
+    let named = |line: &str, entry: Entry, answer: &str| checked(Entry { line: line.into(), ..entry }, answer);
+    let mut all: Vec<Entry> = roots.into_iter().map(|(line, x, answer)| named(line, ask_root(&mut c, x), answer)).collect();
+    all.extend(spheres.map(|(line, face, level, answer)| named(line, ask_sphere(&mut c, face, level, (0., 0.)), answer)));
+    all
+}
+
 /// Lines that no question is written as.
 fn unreadable() -> Vec<Entry> {
     let long = format!("centre 1 0 0{}", " 0".repeat(294));
@@ -358,6 +433,8 @@ fn unreadable() -> Vec<Entry> {
         "direction 99999999999999999999 0", "centre 1.0 0 0", "round 0\r 0", "round 0 0\r\r", "\r", "direction 0\t1", "Round 0 0", "DIRECTION 0 1",
         "cross 0 0 P 1 1 0 no", "cross 0 0 p 1 1 0 maybe", "cross 0 0 p 1 1 0", "turn 0 1 1 0 left", "step 0 0 p 1 1 0", "same 0 1 1 0 0 1 1",
         "meet 0 0 1 1 0 1 1", "nearest 1 0", "place 0 1 0", "place 0.5 1 0 0", "corners 0 0 1 0", "hexagon 0 0 0 0 0 0", "roundx 0 0", &long,
+        "root", "root 4 4", "root  4", "root +4", "Root 4", "sphere 0 0 0", "sphere 0 0 0 0 0", "sphere 0 0.5 0 0", "globe6 0 0 0 0 0 0",
+        "globe5 0 0 0 0 0 0 0 0", "globe 0 0 0 0 0 0 6", "globe7 0 0 0 0 0 0 6",
     ];
     lines.into_iter().map(|line| Entry { line: line.into(), number: 14, answer: refused(14) }).collect()
 }
@@ -411,6 +488,7 @@ fn lines(entries: &[Entry], part: impl Fn(&Entry) -> &str) -> String {
 /// Writes `stdin` and `stdout` into a folder.
 pub fn run(folder: &Path) {
     let mut all = checked_places();
+    all.extend(checked_globe());
     all.extend(unreadable());
     all.extend(just_readable());
     all.extend(decimals());

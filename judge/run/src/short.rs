@@ -1,6 +1,6 @@
 //! Lent slices that are too short for the values: each function refuses with 2 and writes nothing. The other inputs would be
 //! refused too, with a higher number, or with 1, the only one that is lower.
-use crate::{Tally, ours::{Outline, UNTOUCHED, Vector, bare}};
+use crate::{Tally, ours::{Outline, SphereOutline, UNTOUCHED, Vector, bare}};
 use h3o::face::FRAME;
 
 /// No place: 3 and 10.
@@ -40,6 +40,8 @@ fn places(tally: &mut Tally) {
     short(tally, "corners", 19, word, |out| bare::corners(NOWHERE, 16, out));
     short(tally, "frame", 180, double, bare::frame);
     short(tally, "place", 4, word, |out| bare::place(&FRAME, NOTHING, 16, out));
+    short(tally, "root", 1, double, |out| bare::root(-1., out));
+    short(tally, "sphere", 3, double, |out| bare::sphere(&FRAME, 20, 17, (f64::NAN, 0.), out));
 }
 
 /// Two slices, of which one or both are too short; both must stay.
@@ -49,6 +51,18 @@ fn outline(tally: &mut Tally, name: &str, call: Outline) {
         let number = call(NOWHERE, 16, (9, 9), &mut marks, &mut points);
         let stay = marks.iter().all(|&x| x == UNTOUCHED) && points.iter().all(|&x| x == untouched());
         tally.holds(number == 2 && stay, || format!("{name} into {m} and {p}: {number}"));
+    }
+}
+
+/// The same on the sphere, where a bad frame comes first.
+fn globe(tally: &mut Tally, name: &str, call: SphereOutline) {
+    for (frame, wanted) in [(&FRAME[..], 2), (&FRAME[1..], 1)] {
+        for (m, p) in [(0, 36), (24, 36), (25, 35), (25, 24), (25, 0), (24, 35), (0, 0)] {
+            let (mut marks, mut points) = (vec![UNTOUCHED; m], vec![untouched(); p]);
+            let number = call(frame, NOWHERE, 16, (9, 9), &mut marks, &mut points);
+            let stay = marks.iter().all(|&x| x == UNTOUCHED) && points.iter().all(|&x| x == untouched());
+            tally.holds(number == wanted && stay, || format!("{name} into {m} and {p}: {number}"));
+        }
     }
 }
 
@@ -68,6 +82,8 @@ fn framed(tally: &mut Tally) {
         tally.holds(number == wanted, || format!("plane point into nothing: {number}"));
         let number = bare::place(frame, NOTHING, 16, &mut []);
         tally.holds(number == wanted, || format!("place into nothing: {number}"));
+        let number = bare::sphere(frame, 20, 17, (f64::NAN, 0.), &mut []);
+        tally.holds(number == wanted, || format!("sphere into nothing: {number}"));
     }
 }
 
@@ -75,5 +91,7 @@ pub fn run(tally: &mut Tally) {
     places(tally);
     outline(tally, "hexagon", bare::hexagon);
     outline(tally, "pentagon", bare::pentagon);
+    globe(tally, "hexagon sphere", bare::hexagon_sphere);
+    globe(tally, "pentagon sphere", bare::pentagon_sphere);
     framed(tally);
 }

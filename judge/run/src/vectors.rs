@@ -15,7 +15,7 @@ const SIN60: f64 = 0.8660254037844386;
 /// The plane's unit on the tangent plane of a face at level 0.
 const UNIT: f64 = 0.3819660112501051;
 
-fn dot(a: Vector, b: Vector) -> f64 {
+pub fn dot(a: Vector, b: Vector) -> f64 {
     a[0] * b[0] + (a[1] * b[1] + a[2] * b[2])
 }
 
@@ -32,20 +32,20 @@ fn vec3d([x, y, z]: Vector) -> Vec3d {
     Vec3d::new(x, y, z)
 }
 
-fn off_sphere(v: Vector) -> bool {
+pub fn off_sphere(v: Vector) -> bool {
     !(1. - OFF..=1. + OFF).contains(&dot(v, v))
 }
 
 /// A frame, and whether document 01 refuses it.
 pub struct Frame {
-    numbers: Vec<f64>,
-    bad: bool,
+    pub numbers: Vec<f64>,
+    pub bad: bool,
     /// Whether it is the one that the Rust's tables are made from.
-    default: bool,
+    pub default: bool,
 }
 
 impl Frame {
-    fn new(numbers: Vec<f64>) -> Self {
+    pub fn new(numbers: Vec<f64>) -> Self {
         let parts_bad = |f: &[f64]| off_sphere([f[0], f[1], f[2]]) || f[3..].iter().any(|x| x.abs() > 3.);
         let bad = numbers.len() != 180 || numbers.iter().any(|x| !x.is_finite()) || numbers.chunks(9).any(parts_bad);
         Self { numbers, bad, default: false }
@@ -54,7 +54,7 @@ impl Frame {
         Self { default: true, ..Self::new(FRAME.clone()) }
     }
     /// 0 for a face's centre, 1 for u, 2 for v.
-    fn part(&self, face: usize, which: usize) -> Vector {
+    pub fn part(&self, face: usize, which: usize) -> Vector {
         let at = 9 * face + 3 * which;
         std::array::from_fn(|n| self.numbers[at + n])
     }
@@ -170,13 +170,13 @@ fn outside((x, y): (f64, f64), hexagon: CoordIJK) -> f64 {
 
 /// The largest length seen, and the largest part of its allowance.
 #[derive(Clone, Copy, Default)]
-struct Most {
-    length: f64,
-    part: f64,
+pub struct Most {
+    pub length: f64,
+    pub part: f64,
 }
 
 impl Most {
-    fn note(&mut self, length: f64, allowed: f64) -> bool {
+    pub fn note(&mut self, length: f64, allowed: f64) -> bool {
         self.length = self.length.max(length);
         self.part = self.part.max(length / allowed);
         length <= allowed
@@ -293,7 +293,7 @@ pub fn uniform(c: &mut Chance) -> Vector {
 }
 
 /// A number of any size from 2^-60 to 1, of either sign.
-fn tiny(c: &mut Chance) -> f64 {
+pub fn tiny(c: &mut Chance) -> f64 {
     c.unit() * f64::from_bits((1023 - c.below(60)) << 52)
 }
 
@@ -389,7 +389,7 @@ pub fn some_vector(c: &mut Chance, frame: &Frame, level: u32) -> Vector {
 }
 
 /// Frames that document 01 refuses, and some with other numbers that it takes.
-fn other_frames() -> Vec<Frame> {
+pub fn other_frames() -> Vec<Frame> {
     let good = FRAME.clone();
     let mut all: Vec<Vec<f64>> = vec![vec![], good[..179].to_vec(), [&good[..], &[0.]].concat(), [&good[..], &good[..]].concat()];
     let mut with = |at: usize, x: f64| {

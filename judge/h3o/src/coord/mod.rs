@@ -58,7 +58,7 @@ pub fn to_positive_angle(angle: f64) -> f64 {
     if a < 0. { a + two_pi } else { a }
 }
 
-/// Stands for `LatLng`: the sphere is outside the scope.
+/// Stands for `LatLng`: degrees are outside the scope.
 #[derive(Debug, Clone, Copy)]
 pub struct LatLng(pub Vec3d);
 
@@ -74,18 +74,6 @@ impl LatLng {
 impl From<Vec3d> for LatLng {
     fn from(value: Vec3d) -> Self {
         Self(value)
-    }
-}
-
-impl From<LatLng> for crate::plane::Noted {
-    fn from(_: LatLng) -> Self {
-        unreachable!("boundaries are asked of `plane`")
-    }
-}
-
-impl From<Vec3d> for crate::plane::Noted {
-    fn from(_: Vec3d) -> Self {
-        unreachable!("boundaries are asked of `plane`")
     }
 }
 

@@ -55,13 +55,31 @@ impl From<Vec2d> for CoordIJK {
     }
 }
 
-/// A boundary point of document 01: face, x, y and whether it is a corner.
+/// A boundary point of document 01: x, y, and in the third word its face and whether it is a corner; or, from `coord`, the
+/// projected point: x, y, and in the third word z.
 #[derive(Debug, Clone, Copy, Default, PartialEq)]
 pub struct Noted {
-    pub face: u32,
     pub x: f64,
     pub y: f64,
-    pub corner: bool,
+    third: u64,
+}
+
+impl Noted {
+    pub fn face(self) -> u32 {
+        (self.third >> 1) as u32
+    }
+    pub fn corner(self) -> bool {
+        self.third & 1 == 1
+    }
+    pub fn vector(self) -> [f64; 3] {
+        [self.x, self.y, f64::from_bits(self.third)]
+    }
+}
+
+impl From<coord::Vec3d> for Noted {
+    fn from(value: coord::Vec3d) -> Self {
+        Self { x: value.x, y: value.y, third: value.z.to_bits() }
+    }
 }
 
 /// Stands for `Boundary`: it notes the points in their order.
@@ -87,7 +105,7 @@ pub struct Vec3d(Noted);
 
 impl Vec3d {
     pub fn from_vec2d(value: Vec2d, face: Face, _level: ExtendedResolution, _is_substrate: bool) -> Self {
-        Self(Noted { face: usize::from(face) as u32, x: value.at.x, y: value.at.y, corner: !value.met })
+        Self(Noted { x: value.at.x, y: value.at.y, third: (usize::from(face) as u64) << 1 | u64::from(!value.met) })
     }
     pub fn closest_face(self) -> (Face, f64) {
         unreachable!("places are asked of `coord`")
