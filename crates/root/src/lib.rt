@@ -142,7 +142,7 @@ fn whole_root(m: u64, from: u64) -> u64
     if u * 0x800_0000 < q * q { s - 1 } else { s }
 }
 
-// The root of m · 2^52, rounded to a whole number: 53 digits. The guess is right but for one number in a thousand.
+// The root of m · 2^52, rounded to a whole number: 53 digits. The guess is right but for some forty numbers in a million.
 fn digits_of_root(m: u64) -> u64
     requires { ⌜ (2 ^ 52 ≤ m) × (m + 1 < 2 ^ 54) ⌝ }
     ensures { λ r. ⌜ NearRoot (m * 2 ^ 52) r ⌝ }
