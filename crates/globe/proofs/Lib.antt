@@ -8,3 +8,5 @@ pub mod OnFaces
 pub mod Filling
 pub mod Deep
 pub mod UnitLength
+pub mod UnitVector
+pub mod OnSphere
