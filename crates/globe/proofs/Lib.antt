@@ -10,3 +10,4 @@ pub mod Deep
 pub mod UnitLength
 pub mod UnitVector
 pub mod OnSphere
+pub mod Unique
