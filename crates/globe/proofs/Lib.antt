@@ -11,3 +11,4 @@ pub mod UnitLength
 pub mod UnitVector
 pub mod OnSphere
 pub mod Unique
+pub mod Order
