@@ -12,3 +12,4 @@ pub mod UnitVector
 pub mod OnSphere
 pub mod Unique
 pub mod Order
+pub mod Plane
