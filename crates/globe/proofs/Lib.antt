@@ -1,4 +1,5 @@
 -- Laws of `globe`.
+pub mod Lists
 pub mod OneTest
 pub mod Images
 pub mod Entering
@@ -11,5 +12,6 @@ pub mod UnitLength
 pub mod UnitVector
 pub mod OnSphere
 pub mod Unique
+pub mod Given
 pub mod Order
 pub mod Plane

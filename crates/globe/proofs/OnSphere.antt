@@ -1,7 +1,7 @@
 -- Every vector given out passes the sphere test of document 01, so that the nearest face never refuses it. Assumes nothing.
 use mathlib.Core.Path.{_≡_, sym, _∙_, subst}
 use mathlib.Core.Bool.{false}
-use mathlib.Core.List.{List, [], _∷_, map}
+use mathlib.Core.List.{List, [], _∷_}
 use Prim.Native.Nat.{ℕ}
 use lib.Ieee.{Float, binary64}
 use lib.Ieee.Fits.{add-fits}
@@ -28,6 +28,7 @@ use Rattle.boundary.proofs.Smallest.{both-fine}
 use Rattle.globe.specs.declared.SpherePoint.{SpherePoint}
 use Rattle.globe.specs.Points.{vector, scaleOf, alongOf, reachedOf, sphereOf, badPoint, behind, liftVerdict, sphereVerdict}
 use Rattle.globe.specs.Boundaries.{imageOf, imageVerdict, neededVerdict, neededTo, firstRefused, globeReasons, globeVerdict, globePoints}
+use Rattle.globe.proofs.Lists.{each-map, each-of}
 use Rattle.globe.proofs.OneTest.{one-test}
 use Rattle.globe.proofs.Taking.{pointsOf, points-are}
 use Rattle.globe.proofs.UnitVector.{Held, unit-fine}
@@ -47,15 +48,15 @@ module _ (a : FaceAxes) (scale : Float) (p : Vec2d) where
       let near = passed (behind a scale p) Behind Fine (bad .1) in
       unit-fine (reachedOf a scale p) reached-held (not-false _ (sym (one-test a scale p) ∙ bad .0)) (near .0)
 
+-- The same of a point that the entry answers.
+pub answered-fine : (s : List Float) (f l : ℕ) (p : Vec2d) → sphereVerdict s f l p ≡ Fine → vectorVerdict (sphereOf (faceAt s f) (scaleOf l) p) ≡ Fine
+answered-fine s f l p e =
+    let frame = passed (badFrame s) BadFrame _ e in
+    let face = passed (badFace f) BadFace _ (frame .1) in
+    let level = passed (badGrid l) BadLevel _ (face .1) in
+    sphere-fine (faceAt s f) (scaleOf l) p (level .1)
+
 -- ---- the points of a boundary
-
-pub each : {A : Type 0} (P Q : A → Type 0) → ((x : A) → P x → Q x) → (xs : List A) → Each P xs → Each Q xs
-each P Q g [] h = tt
-each P Q g (x ∷ xs) h = (g x (h .0), each P Q g xs (h .1))
-
-each-map : {A B : Type 0} (P : B → Type 0) (f : A → B) (xs : List A) → Each (λ (x : A). P (f x)) xs → Each P (map f xs)
-each-map P f [] h = tt
-each-map P f (x ∷ xs) h = (h .0, each-map P f xs (h .1))
 
 module _ (s : List Float) (scale : Float) where
   -- where no point that is needed is refused, each has an image
@@ -88,7 +89,7 @@ module _ (sides : ℕ) (s : List Float) (p : Place) (l start n : ℕ) (e : globe
   globe-fine =
       let scale = scaleOf (raisedOf l) in
       let points = boundaryPoints sides p l start n in
-      each-map (λ (q : SpherePoint). vectorVerdict (vectorAt q) ≡ Fine) (imageOf s scale) points (each (λ (q : BoundaryPoint). imageVerdict s scale q ≡ Fine) _ (image-fine s scale) points images-fine)
+      each-map (λ (q : SpherePoint). vectorVerdict (vectorAt q) ≡ Fine) (imageOf s scale) points (each-of _ (λ (q : BoundaryPoint). imageVerdict s scale q ≡ Fine) (image-fine s scale) points images-fine)
 
 -- ---- asked again
 
@@ -98,13 +99,9 @@ taken t v f e = rw (f, e)
 
 -- So the nearest face never refuses a point that the entry of one point gives out, ..
 pub sphere-taken : (t s : List Float) (f l : ℕ) (p : Vec2d) → badFrame t ≡ false → sphereVerdict s f l p ≡ Fine → nearestReply t (sphereOf (faceAt s f) (scaleOf l) p) .number ≡ 0
-sphere-taken t s f l p b e =
-    let frame = passed (badFrame s) BadFrame _ e in
-    let face = passed (badFace f) BadFace _ (frame .1) in
-    let level = passed (badGrid l) BadLevel _ (face .1) in
-    taken t _ b (sphere-fine (faceAt s f) (scaleOf l) p (level .1))
+sphere-taken t s f l p b e = taken t _ b (answered-fine s f l p e)
 
 -- .. nor any point of a boundary on the sphere.
 pub globe-taken : (t : List Float) (sides : ℕ) (s : List Float) (p : Place) (l start n : ℕ) → badFrame t ≡ false → globeVerdict sides s p l start n ≡ Fine → Each (λ (q : SpherePoint). nearestReply t (vectorAt q) .number ≡ 0) (globePoints sides s p l start n)
 globe-taken t sides s p l start n b e =
-    each (λ (q : SpherePoint). vectorVerdict (vectorAt q) ≡ Fine) _ (λ q h. taken t (vectorAt q) b h) (globePoints sides s p l start n) (globe-fine sides s p l start n e)
+    each-of _ (λ (q : SpherePoint). vectorVerdict (vectorAt q) ≡ Fine) (λ q h. taken t (vectorAt q) b h) (globePoints sides s p l start n) (globe-fine sides s p l start n e)

@@ -2,7 +2,7 @@
 use mathlib.Core.Path.{_≡_, refl, sym, ap, _∙_}
 use mathlib.Core.Bool.{false}
 use mathlib.Core.Logic.{inl, inr, ⊎-elim}
-use mathlib.Core.List.{List, [], _∷_, _++_, map}
+use mathlib.Core.List.{List, [], _∷_, map}
 use Prim.Native.Nat.{ℕ, zero, suc, _+_, _-_, _≤_, _<_}
 use native.Mathlib.Omega.{arith}
 use lib.Dec.{ltb}
@@ -37,6 +37,7 @@ use Rattle.globe.specs.declared.SpherePoint.{SpherePoint}
 use Rattle.globe.specs.Points.{scaleOf, vectorValues, sphereReply}
 use Rattle.globe.specs.Boundaries.{imageOf, imageVerdict, neededVerdict, neededTo, firstRefused, globeReasons, globeVerdict, globePoints, noSpherePoint, globeValues, globeReply}
 use Rattle.globe.specs.AsWorked.{OnFace}
+use Rattle.globe.proofs.Lists.{each-append}
 use Rattle.globe.proofs.OnFaces.{before-on, on-face}
 use Rattle.globe.proofs.Taking.{refused-append}
 use Rattle.globe.proofs.OnSphere.{vectorAt, images-fine}
@@ -55,7 +56,7 @@ points-plane s scale k zero e = refl
 points-plane s scale k (suc n) e =
     let a = both-fine (firstRefused s scale (neededTo k n)) _ (sym (refused-append s scale (neededTo k n) _) ∙ e) in
     let b = both-fine (neededVerdict s scale (beforeAt k n)) _ (a .1) in
-    (λ i. orElse (points-plane s scale k n (a .0) i) (needed-plane s scale (beforeAt k n) (b .0) i))
+    λ i. orElse (points-plane s scale k n (a .0) i) (needed-plane s scale (beforeAt k n) (b .0) i)
 
 module _ (sides : ℕ) (s : List Float) (p : Place) (l start n : ℕ) where
   -- Where the boundary on the sphere is answered, the frame has passed, ..
@@ -73,7 +74,7 @@ module _ (sides : ℕ) (s : List Float) (p : Place) (l start n : ℕ) where
   plane-answered e =
       let k = askedShape sides p l start in
       let points = points-plane s (scaleOf (raisedOf l)) k (turnsFor sides n) (both-fine (first (globeReasons sides s p l start n)) _ e .1) in
-      (λ i. orElse (tests-passed e i) (points i))
+      λ i. orElse (tests-passed e i) (points i)
 
   -- With a frame that passes, the tests are those of the plane boundary.
   same-tests : badFrame s ≡ false → first (globeReasons sides s p l start n) ≡ first (boundaryReasons sides p l start n)
@@ -127,10 +128,6 @@ images s l f g (p ∷ ps) on e = (image s l p f g (on .0) (e .0), images s l f g
 abbrev On : BoundaryPoint → Type 0
 On p = p .face < 20
 
-each-append : (xs ys : List BoundaryPoint) → Each On xs → Each On ys → Each On (xs ++ ys)
-each-append [] ys f g = g
-each-append (x ∷ xs) ys f g = (f .0, each-append xs ys (f .1) g)
-
 before-points : (b : Before) → OnFace b → Each On (pointsBefore b)
 before-points Nothing h = tt
 before-points (Point p) h = (on-face h, tt)
@@ -140,8 +137,8 @@ points-on : (s : Shape) → Fit s → (k : ℕ) → Each On (pointsTo s k)
 unfolding pointsTo pointsIn
 points-on s fit zero = tt
 points-on s fit (suc k) =
-    each-append (pointsTo s k) _ (points-on s fit k)
-    (each-append (pointsBefore (beforeAt s k)) (cornersIn s k) (before-points (beforeAt s k) (before-on s fit k)) (either (Each On) (ltb k (s .sides)) (land-okay s k fit .on, tt) tt))
+    each-append On (pointsTo s k) _ (points-on s fit k)
+    (each-append On (pointsBefore (beforeAt s k)) (cornersIn s k) (before-points (beforeAt s k) (before-on s fit k)) (either (Each On) (ltb k (s .sides)) (land-okay s k fit .on, tt) tt))
 
 module _ (sides : ℕ) (s : List Float) (p : Place) (l start n : ℕ) (many : 5 ≤ sides) (few : sides ≤ 6) where
   -- A boundary on the sphere that is answered is the plane boundary, point by point its image under the entry of one point, with the same count, faces and marks.

@@ -8,12 +8,13 @@ use Rattle.reply.specs.Order.{Each}
 use Rattle.reply.proofs.Numbers.{same-verdict}
 use Rattle.reply.proofs.Entries.{values, answer-or-refusal, same-refusal}
 use Rattle.double.proofs.Sign.{same-bits}
+use Rattle.vec3d.specs.declared.Vec3d.{Vec3d}
 use Rattle.globe.specs.declared.Lifted.{Lifted}
 use Rattle.globe.specs.declared.Lifted.the-variants.{Done, Refused}
 use Rattle.globe.specs.declared.SpherePoint.{SpherePoint}
 use Rattle.globe.specs.declared.SphereBoundary.{SphereBoundary}
-use Rattle.globe.specs.Points.{vector, saidLifted}
-use Rattle.globe.specs.Boundaries.{spherePointsValues, saidGlobe}
+use Rattle.globe.specs.Points.{vector, vectorValues, saidLifted}
+use Rattle.globe.specs.Boundaries.{withVector, spherePointsValues, saidGlobe}
 use Rattle.globe.proofs.UnitVector.{Held}
 use Rattle.globe.proofs.OnSphere.{vectorAt}
 
@@ -22,14 +23,17 @@ abbrev pub HeldLifted : Lifted → Type 0
 HeldLifted (Done v) = Held v
 HeldLifted (Refused r) = Unit
 
--- Two answers of one point that a program holds and that say the same are one.
-pub one-lifted : (a b : Lifted) → HeldLifted a → HeldLifted b → saidLifted a ≡ saidLifted b → a ≡ b
-one-lifted (Done v) (Done w) f g e =
-    let s = values e in
+-- Two vectors that a program holds and that say the same are one.
+pub same-vector : (v w : Vec3d) → Held v → Held w → vectorValues v ≡ vectorValues w → v ≡ w
+same-vector v w f g e =
     let x = same-bits (v .x) (w .x) (f .x) (g .x) (cc) in
     let y = same-bits (v .y) (w .y) (f .y) (g .y) (cc) in
     let z = same-bits (v .z) (w .z) (f .z) (g .z) (cc) in
-    λ n. Done (vector (x n) (y n) (z n))
+    λ n. vector (x n) (y n) (z n)
+
+-- So are two answers of one point.
+pub one-lifted : (a b : Lifted) → HeldLifted a → HeldLifted b → saidLifted a ≡ saidLifted b → a ≡ b
+one-lifted (Done v) (Done w) f g e = ap Done (same-vector v w f g (values e))
 one-lifted (Done v) (Refused r) f g e = answer-or-refusal 3 _ r e
 one-lifted (Refused r) (Done v) f g e = answer-or-refusal 3 _ r (sym e)
 one-lifted (Refused r) (Refused s) f g e = ap Refused (same-refusal 3 r s e)
@@ -45,11 +49,9 @@ same-points (p ∷ ps) [] f g e = let z : _≡_ {A = ℕ} 0 1 = cc in absurd (om
 same-points (p ∷ ps) (q ∷ qs) f g e =
     let face : p .face ≡ q .face = cc in
     let mark : p .mark ≡ q .mark = cc in
-    let x = same-bits (p .x) (q .x) (f .0 .x) (g .0 .x) (cc) in
-    let y = same-bits (p .y) (q .y) (f .0 .y) (g .0 .y) (cc) in
-    let z = same-bits (p .z) (q .z) (f .0 .z) (g .0 .z) (cc) in
+    let v = same-vector (vectorAt p) (vectorAt q) (f .0) (g .0) (cc) in
     let rest = same-points ps qs (f .1) (g .1) (cc) in
-    λ n. record { face = face n; mark = mark n; x = x n; y = y n; z = z n } ∷ rest n
+    λ n. withVector (face n) (mark n) (v n) ∷ rest n
 
 -- Two boundaries on the sphere that a program holds and that say the same are one.
 pub one-globe : (a b : SphereBoundary) → AllHeld (a .points) → AllHeld (b .points) → saidGlobe a ≡ saidGlobe b → a ≡ b
