@@ -1,4 +1,4 @@
--- Laws of `globe`.
+-- Laws of `globe`: how its loops and tests lead to the answer, vectors on the sphere, unique answers, refusals, and the plane boundary beside it.
 pub mod Lists
 pub mod OneTest
 pub mod Images
