@@ -13,12 +13,12 @@ use reply::Refusal;
 pub struct Answer {
     pub number: u32,
     pub numbers: [u64; 25],
-    pub doubles: [f64; 24],
+    pub doubles: [f64; 36],
 }
 
 // Asks what a question asks, settling apart, whose number of steps has 64 bits.
 fn call(frame: &[f64], q: Question, words: &mut [u32], doubles: &mut [f64]) -> u32
-    requires { ⌜ (now words ≡ zeros 25) × (bitsOf (now doubles) ≡ zeros 24) ⌝ }
+    requires { ⌜ (now words ≡ zeros 25) × (bitsOf (now doubles) ≡ zeros 36) ⌝ }
     ensures { λ r. ⌜ ((q .asked ≡ Settle → ⊥) → Holds (q .asked) (replyTo (now (frame .entry)) q) r (now (words .exit)) (bitsOf (now (doubles .exit)))) ⌝ }
 {
     let asked = q.asked;
@@ -44,6 +44,36 @@ fn call(frame: &[f64], q: Question, words: &mut [u32], doubles: &mut [f64]) -> u
         }
         Asked::Pentagon => {
             lent_borders::pentagon(n[0], n[2], n[3], n[4], n[1], n[5], n[6], words, doubles)
+        }
+        Asked::Root => lent_globe::root(d[0], doubles),
+        Asked::Sphere => lent_globe::sphere(frame, n[0], n[1], d[2], d[3], doubles),
+        Asked::Globe6 => {
+            lent_globe::hexagon(
+                frame,
+                n[0],
+                n[2],
+                n[3],
+                n[4],
+                n[1],
+                n[5],
+                n[6],
+                words,
+                doubles,
+            )
+        }
+        Asked::Globe5 => {
+            lent_globe::pentagon(
+                frame,
+                n[0],
+                n[2],
+                n[3],
+                n[4],
+                n[1],
+                n[5],
+                n[6],
+                words,
+                doubles,
+            )
         }
         Asked::Help => 0,
         Asked::Unreadable => Refusal::BadLine.number(),
@@ -71,7 +101,7 @@ fn settled(n: [u32; 8]) -> Answer
     Answer {
         number,
         numbers,
-        doubles: [0.0; 24],
+        doubles: [0.0; 36],
     }
 }
 
@@ -85,7 +115,7 @@ pub fn answer_to(frame: &[f64], q: Question) -> Answer
         Asked::Settle => settled(n),
         _ => {
             let mut words = [0u32; 25];
-            let mut doubles = [0.0; 24];
+            let mut doubles = [0.0; 36];
             let number = call(frame, q, &mut words, &mut doubles);
             Answer {
                 number,
