@@ -8,6 +8,7 @@ ghost use Rattle.text.specs.Writing.{PutAt, Wrote};
 ghost use Rattle.lent.specs.Lent.{bitsOf};
 ghost use Rattle.ask_answer.specs.Answers.{kindsOf, valuesIn, saidAnswer};
 ghost use Rattle.ask_write.specs.Texts.{textTo, shownOf, valuesText, answerText, askText};
+ghost use Rattle.ask_read.specs.declared.Asked.the-variants.{Hexagon, Globe6};
 use ask_answer::Answer;
 use ask_read::Asked;
 
@@ -93,6 +94,25 @@ fn write_line(buf: &mut [u8], kinds: &[u8], a: Answer) -> usize
     text::put_byte(buf, end, b'\n')
 }
 
+// The line of a border on the plane, and of one on the sphere.
+fn write_border(buf: &mut [u8], a: Answer) -> usize
+    requires { ⌜ 1300 ≤ length (now buf) ⌝ }
+    ensures { λ r. ⌜ PutAt (valuesText (kindsOf Hexagon) (valuesIn (kindsOf Hexagon) (a .numbers) (bitsOf (a .doubles)))) (now (buf .entry)) (now (buf .exit)) 0 r × (r ≤ 1300) ⌝ }
+{
+    write_line(buf, b"nnxxmnxxmnxxmnxxmnxxmnxxmnxxmnxxmnxxmnxxmnxxmnxxm", a)
+}
+
+fn write_globe(buf: &mut [u8], a: Answer) -> usize
+    requires { ⌜ 1300 ≤ length (now buf) ⌝ }
+    ensures { λ r. ⌜ PutAt (valuesText (kindsOf Globe6) (valuesIn (kindsOf Globe6) (a .numbers) (bitsOf (a .doubles)))) (now (buf .entry)) (now (buf .exit)) 0 r × (r ≤ 1300) ⌝ }
+{
+    write_line(
+        buf,
+        b"nnxxxmnxxxmnxxxmnxxxmnxxxmnxxxmnxxxmnxxxmnxxxmnxxxmnxxxmnxxxm",
+        a,
+    )
+}
+
 fn write_values(buf: &mut [u8], asked: Asked, a: Answer) -> usize
     requires { ⌜ 1300 ≤ length (now buf) ⌝ }
     ensures { λ r. ⌜ PutAt (valuesText (kindsOf asked) (valuesIn (kindsOf asked) (a .numbers) (bitsOf (a .doubles)))) (now (buf .entry)) (now (buf .exit)) 0 r × (r ≤ 1300) ⌝ }
@@ -110,28 +130,12 @@ fn write_values(buf: &mut [u8], asked: Asked, a: Answer) -> usize
         Asked::Nearest => write_line(buf, b"nx", a),
         Asked::Place => write_line(buf, b"nnnn", a),
         Asked::Corners => write_line(buf, b"nnnnnnnnnnnnnnnnnnn", a),
-        Asked::Hexagon => {
-            write_line(buf, b"nnxxmnxxmnxxmnxxmnxxmnxxmnxxmnxxmnxxmnxxmnxxmnxxm", a)
-        }
-        Asked::Pentagon => {
-            write_line(buf, b"nnxxmnxxmnxxmnxxmnxxmnxxmnxxmnxxmnxxmnxxmnxxmnxxm", a)
-        }
+        Asked::Hexagon => write_border(buf, a),
+        Asked::Pentagon => write_border(buf, a),
         Asked::Root => write_line(buf, b"x", a),
         Asked::Sphere => write_line(buf, b"xxx", a),
-        Asked::Globe6 => {
-            write_line(
-                buf,
-                b"nnxxxmnxxxmnxxxmnxxxmnxxxmnxxxmnxxxmnxxxmnxxxmnxxxmnxxxmnxxxm",
-                a,
-            )
-        }
-        Asked::Globe5 => {
-            write_line(
-                buf,
-                b"nnxxxmnxxxmnxxxmnxxxmnxxxmnxxxmnxxxmnxxxmnxxxmnxxxmnxxxmnxxxm",
-                a,
-            )
-        }
+        Asked::Globe6 => write_globe(buf, a),
+        Asked::Globe5 => write_globe(buf, a),
         Asked::Help => 0,
         Asked::Unreadable => 0,
     }

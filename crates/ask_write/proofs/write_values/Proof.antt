@@ -43,22 +43,22 @@ returns-12 : tie.Need-returns-12
 returns-12 c = rw (c .before .before .before .before .before .enum-told12 .given .1) (c .before .before .write-line12 .ensures)
 
 returns-13 : tie.Need-returns-13
-returns-13 c = rw (c .before .before .before .before .before .enum-told13 .given .1) (c .before .before .write-line13 .ensures)
+returns-13 c = rw (c .before .before .before .before .enum-told13 .given .1) (c .before .before .write-border .ensures)
 
 returns-14 : tie.Need-returns-14
-returns-14 c = rw (c .before .before .before .before .before .enum-told14 .given .1) (c .before .before .write-line14 .ensures)
+returns-14 c = rw (c .before .before .before .before .enum-told14 .given .1) (c .before .before .write-border2 .ensures)
 
 returns-15 : tie.Need-returns-15
-returns-15 c = rw (c .before .before .before .before .before .enum-told15 .given .1) (c .before .before .write-line15 .ensures)
+returns-15 c = rw (c .before .before .before .before .before .enum-told15 .given .1) (c .before .before .write-line13 .ensures)
 
 returns-16 : tie.Need-returns-16
-returns-16 c = rw (c .before .before .before .before .before .enum-told16 .given .1) (c .before .before .write-line16 .ensures)
+returns-16 c = rw (c .before .before .before .before .before .enum-told16 .given .1) (c .before .before .write-line14 .ensures)
 
 returns-17 : tie.Need-returns-17
-returns-17 c = rw (c .before .before .before .before .before .enum-told17 .given .1) (c .before .before .write-line17 .ensures)
+returns-17 c = rw (c .before .before .before .before .enum-told17 .given .1) (c .before .before .write-globe .ensures)
 
 returns-18 : tie.Need-returns-18
-returns-18 c = rw (c .before .before .before .before .before .enum-told18 .given .1) (c .before .before .write-line18 .ensures)
+returns-18 c = rw (c .before .before .before .before .enum-told18 .given .1) (c .before .before .write-globe2 .ensures)
 
 returns-19 : tie.Need-returns-19
 unfolding valuesText
@@ -77,12 +77,11 @@ write-values-spec =
     search needs) (λ c. search needs) (λ c. search needs) (λ c κs. search needs) (λ c. search needs) (λ c. search needs) (λ c κs.
     search needs) (λ c. search needs) (λ c. search needs) (λ c κs. search needs) (λ c. search needs) (λ c. search needs) (λ c κs.
     search needs) (λ c. search needs) (λ c. search needs) (λ c κs. search needs) (λ c. search needs) (λ c. search needs) (λ c κs.
-    search needs) (λ c. search needs) (λ c. search needs) (λ c κs. search needs) (λ c. search needs) (λ c. search needs) (λ c κs.
-    search needs) (λ c. search needs) (λ c. search needs) (λ c κs. search needs) (λ c. search needs) (λ c. search needs) (λ c κs.
-    search needs) (λ c. search needs) (λ c. search needs) (λ c κs. search needs) (λ c. search needs) (λ c. search needs) (λ c κs.
-    search needs) (λ c. search needs) (λ c. search needs) (λ c. search needs) returns (λ c. search needs) returns-2 (λ c. search
-    needs) returns-3 (λ c. search needs) returns-4 (λ c. search needs) returns-5 (λ c. search needs) returns-6 (λ c. search
-    needs) returns-7 (λ c. search needs) returns-8 (λ c. search needs) returns-9 (λ c. search needs) returns-10 (λ c. search
-    needs) returns-11 (λ c. search needs) returns-12 (λ c. search needs) returns-13 (λ c. search needs) returns-14 (λ c. search
-    needs) returns-15 (λ c. search needs) returns-16 (λ c. search needs) returns-17 (λ c. search needs) returns-18 returns-19
-    returns-20)
+    search needs) (λ c. search needs) (λ c κs. search needs) (λ c. search needs) (λ c κs. search needs) (λ c. search needs) (λ c.
+    search needs) (λ c κs. search needs) (λ c. search needs) (λ c. search needs) (λ c κs. search needs) (λ c. search needs) (λ c
+    κs. search needs) (λ c. search needs) (λ c κs. search needs) (λ c. search needs) (λ c. search needs) (λ c. search needs)
+    returns (λ c. search needs) returns-2 (λ c. search needs) returns-3 (λ c. search needs) returns-4 (λ c. search needs)
+    returns-5 (λ c. search needs) returns-6 (λ c. search needs) returns-7 (λ c. search needs) returns-8 (λ c. search needs)
+    returns-9 (λ c. search needs) returns-10 (λ c. search needs) returns-11 (λ c. search needs) returns-12 (λ c. search needs)
+    returns-13 (λ c. search needs) returns-14 (λ c. search needs) returns-15 (λ c. search needs) returns-16 (λ c. search needs)
+    returns-17 (λ c. search needs) returns-18 returns-19 returns-20)
