@@ -30,7 +30,6 @@ use Rattle.lent.specs.Lent.{bitsOf}
 use Rattle.ask_read.specs.declared.Asked.{Asked}
 use Rattle.ask_read.specs.declared.Question.{Question}
 use Rattle.ask_answer.specs.declared.Answer.{Answer}
-use Rattle.ask_answer.specs.declared.Cell.{Cell}
 
 -- ---- the reply
 
@@ -72,14 +71,6 @@ replyOf Asked.Globe6 frame ns ds = globeReply 6 frame (placeAt ns 0 2) (numberAt
 replyOf Asked.Globe5 frame ns ds = globeReply 5 frame (placeAt ns 0 2) (numberAt ns 1) (numberAt ns 5) (numberAt ns 6)
 replyOf Asked.Help frame ns ds = answer []
 replyOf Asked.Unreadable frame ns ds = refusal 0 BadLine
-
--- a question about a cell
-abbrev pub askedOf : Cell → Asked
-askedOf Cell.Corners = Asked.Corners
-askedOf Cell.Hexagon = Asked.Hexagon
-askedOf Cell.Pentagon = Asked.Pentagon
-askedOf Cell.Globe6 = Asked.Globe6
-askedOf Cell.Globe5 = Asked.Globe5
 
 abbrev pub replyTo : List Float → Question → Reply
 replyTo frame q = replyOf (q .asked) frame (q .numbers) (q .doubles)

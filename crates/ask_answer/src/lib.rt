@@ -1,13 +1,17 @@
 // The answer to a question of the desk tool: each question goes to the C face, with its arguments from the question's fields.
 ghost use mathlib.Core.Path.{_≡_};
-ghost use mathlib.Core.List.{[]};
 ghost use Rattle.reply.specs.Replies.{zeros};
+ghost use Rattle.vec3d.specs.Frame.{badFrame};
+ghost use Rattle.globe.specs.Boundaries.{sidesOf, globeReply};
 ghost use Rattle.lent.specs.Lent.{bitsOf};
-ghost use Rattle.ask_answer.specs.Answers.{askedOf, replyOf, replyTo, numberAt, flagAt, placeAt, Holds, Says};
+ghost use Rattle.lent_globe.specs.Globes.{GivesGlobe};
+ghost use Rattle.ask_answer.specs.Answers.{replyTo, numberAt, flagAt, placeAt, Holds, Says};
 ghost use Rattle.ask_read.specs.declared.Asked.the-variants.{Settle};
 ghost use Rattle.faceijk.specs.Entries.{settleReply};
 use ask_read::Asked;
 use ask_read::Question;
+use faceijk::Place;
+use globe::Outline;
 use reply::Refusal;
 
 // What is to be printed: the refusal's number, 0 for none, and the numbers and the doubles in their order; zeros past them.
@@ -17,57 +21,18 @@ pub struct Answer {
     pub doubles: [f64; 36],
 }
 
-// A question about a cell: its fields are FACE LEVEL I J K, and START LENGTH for a boundary.
-enum Cell {
-    Corners,
-    Hexagon,
-    Pentagon,
-    Globe6,
-    Globe5,
-}
-
-// Asks what a question about a cell asks.
-fn call_cell(frame: &[f64], cell: Cell, n: [u32; 8], words: &mut [u32], doubles: &mut [f64]) -> u32
-    requires { ⌜ (now words ≡ zeros 25) × (bitsOf (now doubles) ≡ zeros 36) ⌝ }
-    ensures { λ r. ⌜ Holds (askedOf cell) (replyOf (askedOf cell) (now (frame .entry)) n []) r (now (words .exit)) (bitsOf (now (doubles .exit))) ⌝ }
+// Asks for a boundary on the sphere, its fields FACE LEVEL I J K START LENGTH.
+fn call_globe(
+    frame: &[f64],
+    outline: Outline,
+    n: [u32; 8],
+    words: &mut [u32],
+    doubles: &mut [f64],
+) -> u32
+    ensures { λ r. ⌜ GivesGlobe (badFrame (now (frame .entry))) (globeReply (sidesOf outline) (now (frame .entry)) (placeAt n 0 2) (numberAt n 1) (numberAt n 5) (numberAt n 6)) (now (words .entry)) (now (words .exit)) (bitsOf (now (doubles .entry))) (bitsOf (now (doubles .exit))) r ⌝ }
 {
-    match cell {
-        Cell::Corners => lent_borders::corners(n[0], n[2], n[3], n[4], n[1], words),
-        Cell::Hexagon => {
-            lent_borders::hexagon(n[0], n[2], n[3], n[4], n[1], n[5], n[6], words, doubles)
-        }
-        Cell::Pentagon => {
-            lent_borders::pentagon(n[0], n[2], n[3], n[4], n[1], n[5], n[6], words, doubles)
-        }
-        Cell::Globe6 => {
-            lent_globe::hexagon(
-                frame,
-                n[0],
-                n[2],
-                n[3],
-                n[4],
-                n[1],
-                n[5],
-                n[6],
-                words,
-                doubles,
-            )
-        }
-        Cell::Globe5 => {
-            lent_globe::pentagon(
-                frame,
-                n[0],
-                n[2],
-                n[3],
-                n[4],
-                n[1],
-                n[5],
-                n[6],
-                words,
-                doubles,
-            )
-        }
-    }
+    let centre = Place::new(n[0], n[2], n[3], n[4]);
+    lent_globe::border(frame, outline, centre, n[1], n[5], n[6], words, doubles)
 }
 
 // Asks what a question asks, settling apart, whose number of steps has 64 bits.
@@ -92,13 +57,17 @@ fn call(frame: &[f64], q: Question, words: &mut [u32], doubles: &mut [f64]) -> u
         }
         Asked::Nearest => lent_places::nearest(frame, d[0], d[1], d[2], words, doubles),
         Asked::Place => lent_places::place(frame, d[1], d[2], d[3], n[0], words),
-        Asked::Corners => call_cell(frame, Cell::Corners, n, words, doubles),
-        Asked::Hexagon => call_cell(frame, Cell::Hexagon, n, words, doubles),
-        Asked::Pentagon => call_cell(frame, Cell::Pentagon, n, words, doubles),
+        Asked::Corners => lent_borders::corners(n[0], n[2], n[3], n[4], n[1], words),
+        Asked::Hexagon => {
+            lent_borders::hexagon(n[0], n[2], n[3], n[4], n[1], n[5], n[6], words, doubles)
+        }
+        Asked::Pentagon => {
+            lent_borders::pentagon(n[0], n[2], n[3], n[4], n[1], n[5], n[6], words, doubles)
+        }
         Asked::Root => lent_globe::root(d[0], doubles),
         Asked::Sphere => lent_globe::sphere(frame, n[0], n[1], d[2], d[3], doubles),
-        Asked::Globe6 => call_cell(frame, Cell::Globe6, n, words, doubles),
-        Asked::Globe5 => call_cell(frame, Cell::Globe5, n, words, doubles),
+        Asked::Globe6 => call_globe(frame, Outline::Hexagon, n, words, doubles),
+        Asked::Globe5 => call_globe(frame, Outline::Pentagon, n, words, doubles),
         Asked::Help => 0,
         Asked::Unreadable => Refusal::BadLine.number(),
     }

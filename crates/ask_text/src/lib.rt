@@ -1,5 +1,4 @@
 // How the desk tool's answers are written into a lent buffer: a value by the letter of its kind, and a refusal's line.
-ghost use mathlib.Core.Path.{_≡_};
 ghost use Prim.Native.Nat.{_+_, _≤_, _<_};
 ghost use lib.ListN.{length};
 ghost use Rattle.reply.specs.Choice.{pick};

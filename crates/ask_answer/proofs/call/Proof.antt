@@ -2,6 +2,7 @@
 use mathlib.Core.Path.{_≡_, refl, sym, subst}
 use mathlib.Core.List.{List}
 use Prim.Native.Nat.{ℕ}
+use lib.Dec.{lit≤}
 use lib.Ieee.{nan}
 use lib.ListN.{length, getD}
 use Rattle.reply.specs.declared.Refusal.the-variants.{BadLine}
@@ -11,7 +12,7 @@ use Rattle.ask_read.specs.declared.Asked.{Asked}
 use Rattle.ask_read.specs.declared.Asked.the-variants.{Round, Centre, Meet, Turn, Step, Cross, Settle, Direction, Same, Nearest, Place, Corners, Hexagon, Pentagon, Root, Sphere, Globe6, Globe5, Help, Unreadable}
 use Rattle.ask_answer.specs.Answers.{numberAt, flagAt, coordAt, placeAt, replyOf, replyTo, valuesIn, numbersIn, doublesIn, Holds}
 use Rattle.ask_answer.proofs.Holding.{refused}
-use Rattle.ask_answer.proofs.Calls.{round, centre, meet, turn, step, cross, direction, same, nearest, place-of, root, sphere-of}
+use Rattle.ask_answer.proofs.Calls.{round, centre, meet, turn, step, cross, direction, same, nearest, place-of, corners, border-of, root, sphere-of, globe-of}
 use borrow.Author.Needs.{needs}
 use Rattle.ask_answer.proofs.call.Statement.{statement}
 use Rattle.ask_answer.proofs.call.Tie as tie
@@ -99,15 +100,24 @@ returns-11 c =
 
 returns-12 : tie.Need-returns-12
 unfolding replyOf
-returns-12 c = on (c .before .before .before .before .before .before .before .before .before .before .before .before .before .before) Corners (c .before .before .before .before .before .before .before .enum-told12 .given .1) (c .before .before .before .before .call-cell .ensures)
+returns-12 c =
+    let s = c .before .before .before .before .before .before .before .before .before .before .before in
+    let ns = s .args .q .numbers in
+    on s Corners (c .before .before .before .before .enum-told12 .given .1) (corners (s .pre .0) (s .pre .1) (placeAt ns 0 2) (numberAt ns 1) (c .before .before .corners .ensures))
 
 returns-13 : tie.Need-returns-13
 unfolding replyOf
-returns-13 c = on (c .before .before .before .before .before .before .before .before .before .before .before .before .before .before) Hexagon (c .before .before .before .before .before .before .before .enum-told13 .given .1) (c .before .before .before .before .call-cell2 .ensures)
+returns-13 c =
+    let s = c .before .before .before .before .before .before .before .before .before .before .before .before .before .before in
+    let ns = s .args .q .numbers in
+    on s Hexagon (c .before .before .before .before .before .before .before .enum-told13 .given .1) (border-of (s .pre .0) (s .pre .1) Hexagon 6 (placeAt ns 0 2) (numberAt ns 1) (numberAt ns 5) (numberAt ns 6) refl (lit≤ tt) (c .before .before .before .before .hexagon .ensures))
 
 returns-14 : tie.Need-returns-14
 unfolding replyOf
-returns-14 c = on (c .before .before .before .before .before .before .before .before .before .before .before .before .before .before) Pentagon (c .before .before .before .before .before .before .before .enum-told14 .given .1) (c .before .before .before .before .call-cell3 .ensures)
+returns-14 c =
+    let s = c .before .before .before .before .before .before .before .before .before .before .before .before .before .before in
+    let ns = s .args .q .numbers in
+    on s Pentagon (c .before .before .before .before .before .before .before .enum-told14 .given .1) (border-of (s .pre .0) (s .pre .1) Pentagon 5 (placeAt ns 0 2) (numberAt ns 1) (numberAt ns 5) (numberAt ns 6) refl (lit≤ tt) (c .before .before .before .before .pentagon .ensures))
 
 returns-15 : tie.Need-returns-15
 unfolding replyOf
@@ -126,11 +136,17 @@ returns-16 c =
 
 returns-17 : tie.Need-returns-17
 unfolding replyOf
-returns-17 c = on (c .before .before .before .before .before .before .before .before .before .before .before .before .before .before) Globe6 (c .before .before .before .before .before .before .before .enum-told17 .given .1) (c .before .before .before .before .call-cell4 .ensures)
+returns-17 c =
+    let s = c .before .before .before .before .before .before .before .before .before .before .before .before .before .before in
+    let ns = s .args .q .numbers in
+    on s Globe6 (c .before .before .before .before .before .before .before .enum-told17 .given .1) (globe-of (s .pre .0) (s .pre .1) Globe6 6 (s .args .frame .now) (placeAt ns 0 2) (numberAt ns 1) (numberAt ns 5) (numberAt ns 6) refl (lit≤ tt) (c .before .before .before .before .call-globe .ensures))
 
 returns-18 : tie.Need-returns-18
 unfolding replyOf
-returns-18 c = on (c .before .before .before .before .before .before .before .before .before .before .before .before .before .before) Globe5 (c .before .before .before .before .before .before .before .enum-told18 .given .1) (c .before .before .before .before .call-cell5 .ensures)
+returns-18 c =
+    let s = c .before .before .before .before .before .before .before .before .before .before .before .before .before .before in
+    let ns = s .args .q .numbers in
+    on s Globe5 (c .before .before .before .before .before .before .before .enum-told18 .given .1) (globe-of (s .pre .0) (s .pre .1) Globe5 5 (s .args .frame .now) (placeAt ns 0 2) (numberAt ns 1) (numberAt ns 5) (numberAt ns 6) refl (lit≤ tt) (c .before .before .before .before .call-globe2 .ensures))
 
 returns-19 : tie.Need-returns-19
 unfolding replyOf valuesIn numbersIn doublesIn
@@ -157,13 +173,16 @@ call-spec =
     needs) (λ c. search needs) (λ c. search needs) (λ c. search needs) (λ c. search needs) (λ c. search needs) (λ c. search
     needs) (λ c. search needs) (λ c. search needs) (λ c. search needs) (λ c κs. search needs) (λ c. search needs) (λ c. search
     needs) (λ c. search needs) (λ c. search needs) (λ c κs. search needs) (λ c. search needs) (λ c. search needs) (λ c. search
-    needs) (λ c. search needs) (λ c. search needs) (λ c κs. search needs) (λ c. search needs) (λ c κs. search needs) (λ c. search
-    needs) (λ c κs. search needs) (λ c. search needs) (λ c κs. search needs) (λ c. search needs) (λ c. search needs) (λ c κs.
-    search needs) (λ c. search needs) (λ c. search needs) (λ c. search needs) (λ c. search needs) (λ c. search needs) (λ c κs.
-    search needs) (λ c. search needs) (λ c κs. search needs) (λ c. search needs) (λ c κs. search needs) (λ c. search needs) (λ c.
-    search needs) (λ c κs. search needs) (λ c. search needs) returns (λ c. search needs) returns-2 (λ c. search needs) returns-3
-    (λ c. search needs) returns-4 (λ c. search needs) returns-5 (λ c. search needs) returns-6 returns-7 (λ c. search needs)
-    returns-8 (λ c. search needs) returns-9 (λ c. search needs) (λ c. search needs) returns-10 (λ c. search needs) returns-11 (λ
-    c. search needs) (λ c. search needs) returns-12 (λ c. search needs) (λ c. search needs) returns-13 (λ c. search needs) (λ c.
+    needs) (λ c. search needs) (λ c. search needs) (λ c κs. search needs) (λ c. search needs) (λ c. search needs) (λ c. search
+    needs) (λ c. search needs) (λ c. search needs) (λ c. search needs) (λ c κs. search needs) (λ c. search needs) (λ c. search
+    needs) (λ c. search needs) (λ c. search needs) (λ c. search needs) (λ c. search needs) (λ c. search needs) (λ c. search
+    needs) (λ c κs. search needs) (λ c. search needs) (λ c. search needs) (λ c. search needs) (λ c. search needs) (λ c. search
+    needs) (λ c. search needs) (λ c. search needs) (λ c. search needs) (λ c κs. search needs) (λ c. search needs) (λ c. search
+    needs) (λ c κs. search needs) (λ c. search needs) (λ c. search needs) (λ c. search needs) (λ c. search needs) (λ c. search
+    needs) (λ c κs. search needs) (λ c. search needs) (λ c κs. search needs) (λ c. search needs) (λ c κs. search needs) (λ c.
+    search needs) (λ c. search needs) (λ c κs. search needs) (λ c. search needs) returns (λ c. search needs) returns-2 (λ c.
+    search needs) returns-3 (λ c. search needs) returns-4 (λ c. search needs) returns-5 (λ c. search needs) returns-6 returns-7
+    (λ c. search needs) returns-8 (λ c. search needs) returns-9 (λ c. search needs) (λ c. search needs) returns-10 (λ c. search
+    needs) returns-11 (λ c. search needs) returns-12 (λ c. search needs) (λ c. search needs) returns-13 (λ c. search needs) (λ c.
     search needs) returns-14 (λ c. search needs) returns-15 (λ c. search needs) returns-16 (λ c. search needs) (λ c. search
     needs) returns-17 (λ c. search needs) (λ c. search needs) returns-18 returns-19 returns-20)

@@ -1,12 +1,11 @@
 -- `write_line` meets its contract: the values that are shown, and a newline. Assumes nothing.
-use mathlib.Core.Path.{_≡_, sym, ap, _∙_}
+use mathlib.Core.Path.{_≡_, sym, _∙_}
 use native.Mathlib.Omega.{arith}
-use lib.ListN.{length, getD}
+use lib.ListN.{getD}
 use borrow.Author.Needs.{needs}
 use Rattle.text.proofs.Putting.{put-then, put-length}
 use Rattle.lent.specs.Lent.{bitsOf}
 use Rattle.ask_answer.specs.Answers.{valuesIn}
-use Rattle.ask_write.specs.Texts.{shownOf}
 use Rattle.ask_write.proofs.Lengths.{line-of}
 use Rattle.ask_write.proofs.Reading.{nothing-read, value-is}
 use Rattle.ask_write.proofs.write_line.Statement.{statement}
