@@ -1,103 +1,126 @@
--- A border in an answer: its count and each point's face and mark among the numbers, x and y among the doubles. Assumes nothing.
-use mathlib.Core.Path.{_≡_, refl, sym, ap, _∙_}
-use mathlib.Core.List.{List, [], _∷_, _++_, append-nil}
-use Prim.Native.Nat.{ℕ, zero, suc, _+_, _-_, _*_, _≤_}
-use native.Mathlib.Nat.{suc-inj}
+-- A border in an answer, of the plane or of the sphere: its count and each point's face and mark among the numbers, its coordinates among the doubles. Assumes nothing.
+use mathlib.Core.Path.{_≡_, refl, sym, ap, subst, _∙_}
+use mathlib.Core.Bool.{Bool, true, false}
+use mathlib.Core.List.{List, [], _∷_, _++_}
+use Prim.Native.Nat.{ℕ, zero, suc, _-_, _≤_}
 use native.Mathlib.Omega.{arith}
-use lib.Ieee.{binary64, toBits}
-use lib.ListN.{length, drop, length-append, length-replicate, replicate, drop-of-length-le}
+use lib.Ieee.{Float, binary64, toBits}
+use lib.ListN.{length, length-append, length-map, length-replicate, replicate}
+use Rattle.reply.specs.Choice.{pick}
 use Rattle.reply.specs.declared.Verdict.{Verdict}
 use Rattle.reply.specs.declared.Verdict.the-variants.{Fine, Refused}
-use Rattle.reply.specs.Replies.{answer, reply, first, when, zeros}
-use Rattle.lent.specs.Lent.{held}
-use Rattle.lent_borders.specs.Borders.{marksIn, pointsIn, marksOf, pointsOf}
+use Rattle.reply.specs.declared.Refusal.the-variants.{BadFrame, OutOfFace}
+use Rattle.reply.specs.Replies.{reply, first, when, zeros}
+use Rattle.vec3d.specs.Frame.{badFrame}
+use Rattle.level.specs.Levels.{raisedOf}
 use Rattle.faceijk.specs.declared.Place.{Place}
 use Rattle.boundary.specs.declared.BoundaryPoint.{BoundaryPoint}
-use Rattle.boundary.specs.Boundaries.{badRange, outOfFace, boundaryReasons, askedShape, verdictTo, turnsFor, boundaryVerdict, boundaryPoints, noPoint, roomWith, padded, pointsValues, boundaryValues, boundaryReply}
-use Rattle.reply.specs.declared.Refusal.the-variants.{OutOfFace}
 use Rattle.boundary.specs.Corners.{cellReasons}
 use Rattle.boundary.specs.AsWalked.{cellVerdict}
+use Rattle.boundary.specs.Boundaries.{orElse, badRange, outOfFace, boundaryReasons, askedShape, verdictTo, turnsFor, boundaryVerdict, boundaryPoints, noPoint, roomWith, padded, pointsValues, boundaryValues, boundaryReply}
 use Rattle.boundary.proofs.Asked.{asked}
 use Rattle.boundary.proofs.Smallest.{both-fine}
 use Rattle.boundary.proofs.Verdicts.{first-append, ranged}
 use Rattle.boundary.proofs.Refusing.{at-most-twelve}
+use Rattle.globe.specs.declared.SpherePoint.{SpherePoint}
+use Rattle.globe.specs.Points.{scaleOf}
+use Rattle.globe.specs.Boundaries.{imageOf, neededTo, firstRefused, globeReasons, globeVerdict, globePoints, noSpherePoint, spherePointsValues, globeValues, globeReply}
+use Rattle.lent.specs.Lent.{held}
+use Rattle.lent_borders.specs.Borders as plane
+use Rattle.lent_globe.specs.Globes as sphere
 use Rattle.ask_read.specs.declared.Asked.{Asked}
-use Rattle.ask_answer.specs.Answers.{kindsOf, valuesIn, doublesIn, numbersIn, Holds}
-use Rattle.ask_answer.proofs.Holding.{refused, kept}
+use Rattle.ask_answer.specs.Answers.{kindsOf, doublesIn, numbersIn, Holds}
+use Rattle.ask_answer.proofs.Holding.{Parted, nothing, number, double, holds}
 
--- the kinds of n points
-abbrev pub pointKinds : ℕ → List ℕ
-pointKinds zero = []
-pointKinds (suc n) = 110 ∷ 120 ∷ 120 ∷ 109 ∷ pointKinds n
+-- the kinds of n points, each of which has d doubles
+abbrev pub pointKinds : ℕ → ℕ → List ℕ
+pointKinds d zero = []
+pointKinds d (suc n) = 110 ∷ (replicate d 120 ++ 109 ∷ pointKinds d n)
 
-points-in : (n : ℕ) (ps : List BoundaryPoint) → length ps ≡ n → valuesIn (pointKinds n) (marksIn (pointsValues ps)) (pointsIn (pointsValues ps)) ≡ pointsValues ps
-unfolding valuesIn
-points-in zero [] l = refl
-points-in zero (p ∷ ps) l = absurd (omega arith)
-points-in (suc n) [] l = absurd (omega arith)
-points-in (suc n) (p ∷ ps) l =
-    ap (λ (x : List ℕ). p .face ∷ toBits binary64 (p .x) ∷ toBits binary64 (p .y) ∷ p .mark ∷ x) (points-in n ps (suc-inj l))
+-- ---- one point more: its face, its doubles, however many, and its mark
 
-marks-length : (ps : List BoundaryPoint) → length (marksIn (pointsValues ps)) ≡ 2 * length ps
-marks-length [] = refl
-marks-length (p ∷ ps) = omega (arith, marks-length ps)
+module _ {ks vs ns ds : List ℕ} where
+  doubles-before : (xs : List ℕ) → Parted ks vs ns ds → Parted (replicate (length xs) 120 ++ ks) (xs ++ vs) ns (xs ++ ds)
+  doubles-before [] p = p
+  doubles-before (x ∷ xs) p = double 120 x refl (doubles-before xs p)
 
-points-length : (ps : List BoundaryPoint) → length (pointsIn (pointsValues ps)) ≡ 2 * length ps
-points-length [] = refl
-points-length (p ∷ ps) = omega (arith, points-length ps)
+point-before : {ks vs ns ds : List ℕ} (f mark : ℕ) (xs : List ℕ) → Parted ks vs ns ds
+    → Parted (110 ∷ (replicate (length xs) 120 ++ 109 ∷ ks)) (f ∷ (xs ++ mark ∷ vs)) (f ∷ mark ∷ ns) (xs ++ ds)
+point-before f mark xs p = number 110 f refl (doubles-before xs (number 109 mark refl p))
 
-count-in : (ks ns ds : List ℕ) (count : ℕ) → valuesIn (110 ∷ ks) (count ∷ ns) ds ≡ count ∷ valuesIn ks ns ds
-unfolding valuesIn
-count-in ks ns ds count = refl
+on-plane : (ps : List BoundaryPoint) → Parted (pointKinds 2 (length ps)) (pointsValues ps) (plane.marksIn (pointsValues ps)) (plane.pointsIn (pointsValues ps))
+on-plane [] = nothing
+on-plane (p ∷ ps) = point-before (p .face) (p .mark) (toBits binary64 (p .x) ∷ toBits binary64 (p .y) ∷ []) (on-plane ps)
 
-all-counted : (numbersIn (110 ∷ pointKinds 12) ≡ 25) × (doublesIn (110 ∷ pointKinds 12) ≡ 24)
+on-sphere : (ps : List SpherePoint) → Parted (pointKinds 3 (length ps)) (spherePointsValues ps) (sphere.marksIn (spherePointsValues ps)) (sphere.vectorsIn (spherePointsValues ps))
+on-sphere [] = nothing
+on-sphere (p ∷ ps) =
+    point-before (p .face) (p .mark) (toBits binary64 (p .x) ∷ toBits binary64 (p .y) ∷ toBits binary64 (p .z) ∷ []) (on-sphere ps)
+
+-- ---- twelve of them, and the count before them
+
+counted : (a : Asked) (d count : ℕ) {n : ℕ} {vs ns ds : List ℕ} → kindsOf a ≡ 110 ∷ pointKinds d 12 → n ≡ 12 → Parted (pointKinds d n) vs ns ds → Parted (kindsOf a) (count ∷ vs) (count ∷ ns) ds
+counted a d count {vs = vs} {ns = ns} {ds = ds} t l p =
+    subst (λ (ks : List ℕ). Parted ks (count ∷ vs) (count ∷ ns) ds) (ap (λ (n : ℕ). 110 ∷ pointKinds d n) l ∙ sym t) (number 110 count refl p)
+
+-- 25 numbers, and 24 or 36 doubles
+plane-room : (numbersIn (110 ∷ pointKinds 2 12) ≡ 25) × (doublesIn (110 ∷ pointKinds 2 12) ≡ 24)
 unfolding numbersIn doublesIn
-all-counted = (refl, refl)
+plane-room = (refl, refl)
 
-fine-border : (a : Asked) (count : ℕ) (ps : List BoundaryPoint) {k : ℕ} {ns ds : List ℕ} → kindsOf a ≡ 110 ∷ pointKinds 12 → length ps ≡ 12 → k ≡ 0
-    → ns ≡ marksOf (count ∷ pointsValues ps) ++ [] → ds ≡ pointsOf (count ∷ pointsValues ps) ++ [] → Holds a (answer (count ∷ pointsValues ps)) k ns ds
-fine-border a count ps {ns = ns} {ds = ds} t l e f g =
-    let marks = marksIn (pointsValues ps) in
-    let points = pointsIn (pointsValues ps) in
-    let one : ns ≡ count ∷ marks = f ∙ append-nil (count ∷ marks) in
-    let other : ds ≡ points = g ∙ append-nil points in
-    let numbers : numbersIn (kindsOf a) ≡ 25 = ap numbersIn t ∙ all-counted .0 in
-    let doubles : doublesIn (kindsOf a) ≡ 24 = ap doublesIn t ∙ all-counted .1 in
-    record {
-      number = e;
-      values =
-          (λ d. valuesIn (t d) (one d) (other d)) ∙
-          (count-in (pointKinds 12) marks points count ∙ ap (λ (x : List ℕ). count ∷ x) (points-in 12 ps l));
-      other-numbers =
-          (λ d. drop (numbers d) (one d)) ∙
-          (drop-of-length-le (count ∷ marks) {i = 25} (omega (arith, marks-length ps)) ∙ ap (λ (x : ℕ). zeros (25 - x)) (sym numbers));
-      other-doubles =
-          (λ d. drop (doubles d) (other d)) ∙
-          (drop-of-length-le points {i = 24} (omega (arith, points-length ps)) ∙ ap (λ (x : ℕ). zeros (24 - x)) (sym doubles));
-    }
+sphere-room : (numbersIn (110 ∷ pointKinds 3 12) ≡ 25) × (doublesIn (110 ∷ pointKinds 3 12) ≡ 36)
+unfolding numbersIn doublesIn
+sphere-room = (refl, refl)
 
--- an entry whose tests found nothing gives at most twelve points, and has room for twelve
-twelve : (sides : ℕ) (p : Place) (l start n : ℕ) → sides ≤ 6 → boundaryVerdict sides p l start n ≡ Fine → length (padded (boundaryPoints sides p l start n)) ≡ 12
-unfolding boundaryVerdict roomWith
-twelve sides p l start n few e =
-    let bad = badRange sides start n in
-    let f = both-fine (first (boundaryReasons sides p l start n)) (verdictTo (askedShape sides p l start) (turnsFor sides n)) e .0 in
-    let t = both-fine (cellVerdict p l bad) _ (sym (first-append (cellReasons p l bad) (when (outOfFace p l) OutOfFace ∷ [])) ∙ f) in
-    let within = ranged sides start n (asked p l bad (t .0) .ranged) .1 in
-    let ps = boundaryPoints sides p l start n in
-    let few-points = at-most-twelve sides p l start n within few in
-    omega (arith, length-append ps (replicate (12 - length ps) noPoint), length-replicate (12 - length ps) noPoint)
+-- room for twelve
+twelve : {A : Type 0} (unused : A) (ps : List A) → length ps ≤ 12 → length (roomWith unused ps) ≡ 12
+unfolding roomWith
+twelve unused ps h = omega (arith, length-append ps (replicate (12 - length ps) unused), length-replicate (12 - length ps) unused)
 
-pub border : (a : Asked) (sides : ℕ) (p : Place) (l start n : ℕ) {k : ℕ} {ns ds : List ℕ} → kindsOf a ≡ 110 ∷ pointKinds 12 → sides ≤ 6
-    → let r = boundaryReply sides p l start n in k ≡ r .number → ns ≡ held k 25 (marksOf (r .values)) (zeros 25) → ds ≡ held k 24 (pointsOf (r .values)) (zeros 24) → Holds a r k ns ds
-border a sides p l start n {k = k} {ns = ns} {ds = ds} t few = go (boundaryVerdict sides p l start n) (twelve sides p l start n few)
-  where
-    ps : List BoundaryPoint
-    ps = padded (boundaryPoints sides p l start n)
+module _ (sides : ℕ) (p : Place) (l start n : ℕ) where
+  -- a border whose tests found nothing has at most twelve points
+  few-points : sides ≤ 6 → first (boundaryReasons sides p l start n) ≡ Fine → length (boundaryPoints sides p l start n) ≤ 12
+  few-points few f =
+      let bad = badRange sides start n in
+      let t = both-fine (cellVerdict p l bad) _ (sym (first-append (cellReasons p l bad) (when (outOfFace p l) OutOfFace ∷ [])) ∙ f) in
+      at-most-twelve sides p l start n (ranged sides start n (asked p l bad (t .0) .ranged) .1) few
 
-    vs : List ℕ
-    vs = boundaryValues (boundaryPoints sides p l start n)
+  plane-fine : boundaryVerdict sides p l start n ≡ Fine → first (boundaryReasons sides p l start n) ≡ Fine
+  unfolding boundaryVerdict
+  plane-fine e = both-fine (first (boundaryReasons sides p l start n)) (verdictTo (askedShape sides p l start) (turnsFor sides n)) e .0
 
-    go : (v : Verdict) → (v ≡ Fine → length ps ≡ 12) → k ≡ reply 49 v vs .number → ns ≡ held k 25 (marksOf (reply 49 v vs .values)) (zeros 25) → ds ≡ held k 24 (pointsOf (reply 49 v vs .values)) (zeros 24) → Holds a (reply 49 v vs) k ns ds
-    go (Refused r) m e f g = refused a 49 r (ap length t) e (kept r k 25 (marksOf (zeros 49)) (zeros 25) e f) (kept r k 24 (pointsOf (zeros 49)) (zeros 24) e g)
-    go Fine m e f g = fine-border a (length (boundaryPoints sides p l start n)) ps t (m refl) e (rw e at f) (rw e at g)
+  pub border : (a : Asked) {k : ℕ} {ns ds : List ℕ} → kindsOf a ≡ 110 ∷ pointKinds 2 12 → sides ≤ 6
+      → let r = boundaryReply sides p l start n in k ≡ r .number → ns ≡ held k 25 (plane.marksOf (r .values)) (zeros 25) → ds ≡ held k 24 (plane.pointsOf (r .values)) (zeros 36) → Holds a r k ns ds
+  border a t few =
+      let ps = boundaryPoints sides p l start n in
+      holds a 49 25 24 (boundaryVerdict sides p l start n) (boundaryValues ps) plane.marksOf plane.pointsOf (ap length t) (ap numbersIn t ∙ plane-room .0) (ap doublesIn t ∙ plane-room .1)
+      (λ e. counted a 2 (length ps) t (twelve noPoint ps (few-points few (plane-fine e))) (on-plane (padded ps)))
+
+  module _ (s : List Float) where
+    sphere-fine : globeVerdict sides s p l start n ≡ Fine → first (boundaryReasons sides p l start n) ≡ Fine
+    unfolding globeVerdict
+    sphere-fine e =
+        let framed = when (badFrame s) BadFrame ∷ [] in
+        let plain = boundaryReasons sides p l start n in
+        let f = both-fine (first (globeReasons sides s p l start n)) (firstRefused s (scaleOf (raisedOf l)) (neededTo (askedShape sides p l start) (turnsFor sides n))) e .0 in
+        both-fine (first framed) (first plain) (sym (first-append framed plain) ∙ f) .1
+
+    as-many : length (globePoints sides s p l start n) ≡ length (boundaryPoints sides p l start n)
+    unfolding globePoints
+    as-many = length-map (boundaryPoints sides p l start n) (imageOf s (scaleOf (raisedOf l)))
+
+    pub globe : (a : Asked) {k : ℕ} {ns ds : List ℕ} → kindsOf a ≡ 110 ∷ pointKinds 3 12 → sides ≤ 6
+        → let r = globeReply sides s p l start n in k ≡ r .number → ns ≡ held k 25 (sphere.marksOf (r .values)) (zeros 25) → ds ≡ held k 36 (sphere.vectorsOf (r .values)) (zeros 36) → Holds a r k ns ds
+    globe a t few =
+        let ps = globePoints sides s p l start n in
+        holds a 61 25 36 (globeVerdict sides s p l start n) (globeValues ps) sphere.marksOf sphere.vectorsOf (ap length t) (ap numbersIn t ∙ sphere-room .0) (ap doublesIn t ∙ sphere-room .1)
+        (λ e. counted a 3 (length ps) t (twelve noSpherePoint ps (omega (arith, as-many, few-points few (sphere-fine e)))) (on-sphere (roomWith noSpherePoint ps)))
+
+    -- a bad frame is refused first, so that its number is the reply's
+    pub globe-framed : let r = globeReply sides s p l start n in pick (badFrame s) 1 (r .number) ≡ r .number
+    unfolding globeVerdict
+    globe-framed = go (badFrame s) _ _ _
+      where
+        go : (b : Bool) (v w : Verdict) (vs : List ℕ) → pick b 1 (reply 61 (orElse (pick b (Refused BadFrame) v) w) vs .number) ≡ reply 61 (orElse (pick b (Refused BadFrame) v) w) vs .number
+        go true v w vs = refl
+        go false v w vs = refl

@@ -26,100 +26,127 @@ use Rattle.vec2d.specs.Centre.{centreOf, centreReply}
 use Rattle.vec2d.specs.Meeting.{meetVerdict, meetReply}
 use Rattle.vec2d.specs.Meeting.{crossingOf as meetingOf}
 use Rattle.vec3d.specs.declared.Vec3d.{Vec3d}
-use Rattle.vec3d.specs.Frame.{badFrame}
+use Rattle.vec3d.specs.Frame.{faceAt, badFrame}
 use Rattle.vec3d.specs.Nearest.{nearestVerdict, nearestValues, nearestTo, nearestReply}
 use Rattle.locate.specs.Locating.{locateVerdict, placeOf, locateReply}
 use Rattle.boundary.specs.Corners.{cornersVerdict, coordsValues, cornersAt, sixCorners, cornersReply}
 use Rattle.boundary.specs.Boundaries.{boundaryReply}
+use Rattle.root.specs.Root.{rootVerdict, rootOf, rootReply}
+use Rattle.globe.specs.Points.{scaleOf, sphereOf, sphereVerdict, vectorValues, sphereReply}
+use Rattle.globe.specs.Boundaries.{globeReply}
 use Rattle.lent.specs.Lent.{held, Gives, GivesFramed}
 use Rattle.lent_places.specs.Places.{GivesNearest}
 use Rattle.lent_borders.specs.Borders.{marksOf, pointsOf, GivesBoundary}
+use Rattle.lent_globe.specs.Globes as sphere
+use Rattle.lent_globe.specs.Globes.{GivesGlobe}
 use Rattle.lent_grid.specs.Lines.{linesReply}
 use Rattle.vec2d.specs.Meeting.{lineAt}
-use Rattle.ask_read.specs.declared.Asked.the-variants.{Round, Centre, Meet, Turn, Step, Cross, Settle, Direction, Same, Nearest, Corners}
+use Rattle.ask_read.specs.declared.Asked.the-variants.{Round, Centre, Meet, Turn, Step, Cross, Settle, Direction, Same, Nearest, Corners, Root, Sphere}
 use Rattle.ask_read.specs.declared.Asked.{Asked}
-use Rattle.ask_answer.specs.Answers.{kindsOf, doublesIn, Holds}
-use Rattle.ask_answer.proofs.Holding.{numbers, gives, doubles, both, framed}
-use Rattle.ask_answer.proofs.Bordering.{pointKinds, border}
+use Rattle.ask_answer.specs.Answers.{kindsOf, numbersIn, doublesIn, Holds}
+use Rattle.ask_answer.proofs.Holding.{nothing, number as front, double, holds, numbers, doubles, gives, gives-doubles, framed}
+use Rattle.ask_answer.proofs.Bordering.{pointKinds, border, globe, globe-framed}
 
-module _ {k : ℕ} {out ns ds : List ℕ} (clear : out ≡ zeros 25) (none : ds ≡ zeros 24) where
+module _ {k : ℕ} {out ns ds : List ℕ} (clear : out ≡ zeros 25) (none : ds ≡ zeros 36) where
   pub round : (p : Vec2d) → Gives 3 (roundReply p) out ns k → Holds Round (roundReply p) k ns ds
-  unfolding doublesIn
-  round p = gives Round 3 (roundVerdict p) (coordValues (nearestOf p)) refl refl refl (lit≤ tt) clear none
+  unfolding numbersIn doublesIn
+  round p = gives Round 3 (roundVerdict p) (coordValues (nearestOf p)) refl refl refl refl (lit≤ tt) clear none
 
   pub turn : (p : Place) (clockwise : Bool) → Gives 4 (turnReply p clockwise) out ns k → Holds Turn (turnReply p clockwise) k ns ds
-  unfolding doublesIn
+  unfolding numbersIn doublesIn
   turn p clockwise =
-      gives Turn 4 (placeVerdict p) (placeValues (place (p .face) (mapOf (turnMap clockwise) (coordOf p)))) refl refl refl (lit≤ tt) clear none
+      gives Turn 4 (placeVerdict p) (placeValues (place (p .face) (mapOf (turnMap clockwise) (coordOf p)))) refl refl refl refl (lit≤ tt) clear none
 
   pub step : (p : Place) (l : ℕ) (substrate : Bool) (e : ℕ) → Gives 4 (stepReply p l substrate e) out ns k → Holds Step (stepReply p l substrate e) k ns ds
-  unfolding doublesIn
+  unfolding numbersIn doublesIn
   step p l substrate e =
-      gives Step 4 (overEdgeVerdict p l (badEdge e)) (placeValues (stepOf p e (gridOf l substrate .unit))) refl refl refl (lit≤ tt) clear none
+      gives Step 4 (overEdgeVerdict p l (badEdge e)) (placeValues (stepOf p e (gridOf l substrate .unit))) refl refl refl refl (lit≤ tt) clear none
 
   pub cross : (p : Place) (l : ℕ) (substrate turned : Bool) → Gives 5 (crossReply p l substrate turned) out ns k → Holds Cross (crossReply p l substrate turned) k ns ds
-  unfolding doublesIn
+  unfolding numbersIn doublesIn
   cross p l substrate turned =
-      gives Cross 5 (onGridVerdict p l) (landedValues (crossingOf turned (gridOf l substrate) p)) refl refl refl (lit≤ tt) clear none
+      gives Cross 5 (onGridVerdict p l) (landedValues (crossingOf turned (gridOf l substrate) p)) refl refl refl refl (lit≤ tt) clear none
 
   pub settle : (p : Place) (l : ℕ) (substrate : Bool) → Gives 5 (settleReply p l substrate) out ns k → Holds Settle (settleReply p l substrate) k ns ds
-  unfolding doublesIn
+  unfolding numbersIn doublesIn
   settle p l substrate =
-      gives Settle 5 (onGridVerdict p l) (restedValues (settleFrom (QAt p) (gridOf l substrate) p 0)) refl refl refl (lit≤ tt) clear none
+      gives Settle 5 (onGridVerdict p l) (restedValues (settleFrom (QAt p) (gridOf l substrate) p 0)) refl refl refl refl (lit≤ tt) clear none
 
   pub direction : (f g : ℕ) → Gives 1 (directionReply f g) out ns k → Holds Direction (directionReply f g) k ns ds
-  unfolding doublesIn
+  unfolding numbersIn doublesIn
   direction f g =
-      gives Direction 1 (first (when (badFace f || badFace g) BadFace ∷ [])) (dirTo f g ∷ []) refl refl refl (lit≤ tt) clear none
+      gives Direction 1 (first (when (badFace f || badFace g) BadFace ∷ [])) (dirTo f g ∷ []) refl refl refl refl (lit≤ tt) clear none
 
   pub same : (p q : Place) → Gives 1 (sameReply p q) out ns k → Holds Same (sameReply p q) k ns ds
-  unfolding doublesIn
-  same p q = gives Same 1 (sameVerdict p q) (pick (samePlace p q) 1 0 ∷ []) refl refl refl (lit≤ tt) clear none
+  unfolding numbersIn doublesIn
+  same p q = gives Same 1 (sameVerdict p q) (pick (samePlace p q) 1 0 ∷ []) refl refl refl refl (lit≤ tt) clear none
 
   pub corners : (p : Place) (l : ℕ) → Gives 19 (cornersReply p l) out ns k → Holds Corners (cornersReply p l) k ns ds
-  unfolding doublesIn sixCorners
+  unfolding numbersIn doublesIn sixCorners
   corners p l =
-      gives Corners 19 (cornersVerdict p l) (raisedOf l ∷ coordsValues (cornersAt (coordOf p) l)) refl refl refl (lit≤ tt) clear none
+      gives Corners 19 (cornersVerdict p l) (raisedOf l ∷ coordsValues (cornersAt (coordOf p) l)) refl refl refl refl (lit≤ tt) clear none
 
   pub place-of : (s : List Float) (l : ℕ) (p : Vec3d) → GivesFramed (badFrame s) 4 (locateReply s l p) out ns k → Holds Asked.Place (locateReply s l p) k ns ds
-  unfolding doublesIn
+  unfolding numbersIn doublesIn
   place-of s l p g =
       let r = locateReply s l p in
       let number : k ≡ r .number = (rw clear at (g .number)) ∙ framed (badFrame s) 4 _ (placeValues (placeOf s l p)) in
       let so : ns ≡ held k 4 (r .values) (zeros 25) = rw clear at (g .values) in
-      numbers Asked.Place 4 (locateVerdict s l p) (placeValues (placeOf s l p)) refl refl refl number so none
+      numbers Asked.Place 4 (locateVerdict s l p) (placeValues (placeOf s l p)) refl refl refl refl number so none
 
-module _ {k : ℕ} {out ns ds : List ℕ} (clear : ns ≡ zeros 25) (none : out ≡ zeros 24) where
+module _ {k : ℕ} {out ns ds : List ℕ} (clear : ns ≡ zeros 25) (none : out ≡ zeros 36) where
   pub centre : (c : CoordIJK) → Gives 2 (centreReply c) out ds k → Holds Centre (centreReply c) k ns ds
-  centre c g =
-      let r = centreReply c in
-      let number : k ≡ r .number = rw none at (g .number) in
-      let so : ds ≡ held k 2 (r .values) (zeros 24) = rw none at (g .values) in
-      doubles Centre (verdictOf c) (toBits binary64 (centreOf c .x)) (toBits binary64 (centreOf c .y)) refl number so clear
+  unfolding numbersIn doublesIn
+  centre c =
+      gives-doubles Centre 2 (verdictOf c) (toBits binary64 (centreOf c .x) ∷ toBits binary64 (centreOf c .y) ∷ []) refl refl refl refl (lit≤ tt) clear none
 
   pub meet : (xs : List Float) → length xs ≡ 8 → Gives 2 (linesReply xs) out ds k → Holds Meet (meetReply (lineAt xs 0) (lineAt xs 4)) k ns ds
+  unfolding numbersIn doublesIn
   meet xs l g =
       let a = lineAt xs 0 in
       let b = lineAt xs 4 in
       let r = meetReply a b in
       let number : k ≡ r .number = rw (none, eq-eqb (length xs) 8 l) at (g .number) in
-      let so : ds ≡ held k 2 (r .values) (zeros 24) = rw (none, eq-eqb (length xs) 8 l) at (g .values) in
-      doubles Meet (meetVerdict a b) (toBits binary64 (meetingOf a b .at .x)) (toBits binary64 (meetingOf a b .at .y)) refl number so clear
+      let so : ds ≡ held k 2 (r .values) (zeros 36) = rw (none, eq-eqb (length xs) 8 l) at (g .values) in
+      doubles Meet 2 (meetVerdict a b) (toBits binary64 (meetingOf a b .at .x) ∷ toBits binary64 (meetingOf a b .at .y) ∷ []) refl refl refl refl number so clear
 
-module _ {k : ℕ} {words ns doubles₀ ds : List ℕ} (clear : words ≡ zeros 25) (none : doubles₀ ≡ zeros 24) where
+  pub root : (x : Float) → Gives 1 (rootReply x) out ds k → Holds Root (rootReply x) k ns ds
+  unfolding numbersIn doublesIn
+  root x = gives-doubles Root 1 (rootVerdict x) (toBits binary64 (rootOf x) ∷ []) refl refl refl refl (lit≤ tt) clear none
+
+  pub sphere-of : (s : List Float) (f l : ℕ) (p : Vec2d) → GivesFramed (badFrame s) 3 (sphereReply s f l p) out ds k → Holds Sphere (sphereReply s f l p) k ns ds
+  unfolding numbersIn doublesIn
+  sphere-of s f l p g =
+      let r = sphereReply s f l p in
+      let vs = vectorValues (sphereOf (faceAt s f) (scaleOf l) p) in
+      let number : k ≡ r .number = (rw none at (g .number)) ∙ framed (badFrame s) 3 _ vs in
+      let so : ds ≡ held k 3 (r .values) (zeros 36) = rw none at (g .values) in
+      doubles Sphere 3 (sphereVerdict s f l p) vs refl refl refl refl number so clear
+
+module _ {k : ℕ} {words ns doubles₀ ds : List ℕ} (clear : words ≡ zeros 25) (none : doubles₀ ≡ zeros 36) where
   pub nearest : (s : List Float) (p : Vec3d) → GivesNearest s p words ns doubles₀ ds k → Holds Nearest (nearestReply s p) k ns ds
+  unfolding numbersIn doublesIn
   nearest s p g =
       let r = nearestReply s p in
       let n = nearestTo s p 19 in
       let number : k ≡ r .number = (rw (clear, none) at (g .number)) ∙ framed (badFrame s) 2 _ (nearestValues n) in
       let one : ns ≡ held k 1 (take 1 (r .values)) (zeros 25) = rw clear at (g .one) in
-      let other : ds ≡ held k 1 (drop 1 (r .values)) (zeros 24) = rw none at (g .other) in
-      both Nearest (nearestVerdict s p) (n .face) (toBits binary64 (n .distance)) refl number one other
+      let other : ds ≡ held k 1 (drop 1 (r .values)) (zeros 36) = rw none at (g .other) in
+      holds Nearest 2 1 1 (nearestVerdict s p) (nearestValues n) (take 1) (drop 1) refl refl refl
+      (λ fine. front 110 (n .face) refl (double 120 (toBits binary64 (n .distance)) refl nothing)) number one other
 
-  pub border-of : (a : Asked) (sides : ℕ) (p : Place) (l start n : ℕ) → kindsOf a ≡ 110 ∷ pointKinds 12 → sides ≤ 6 → GivesBoundary (boundaryReply sides p l start n) words ns doubles₀ ds k → Holds a (boundaryReply sides p l start n) k ns ds
+  pub border-of : (a : Asked) (sides : ℕ) (p : Place) (l start n : ℕ) → kindsOf a ≡ 110 ∷ pointKinds 2 12 → sides ≤ 6 → GivesBoundary (boundaryReply sides p l start n) words ns doubles₀ ds k → Holds a (boundaryReply sides p l start n) k ns ds
   border-of a sides p l start n t few g =
       let r = boundaryReply sides p l start n in
       let number : k ≡ r .number = rw (clear, none) at (g .number) in
       let one : ns ≡ held k 25 (marksOf (r .values)) (zeros 25) = rw clear at (g .one) in
-      let other : ds ≡ held k 24 (pointsOf (r .values)) (zeros 24) = rw none at (g .other) in
-      border a sides p l start n t few number one other
+      let other : ds ≡ held k 24 (pointsOf (r .values)) (zeros 36) = rw none at (g .other) in
+      border sides p l start n a t few number one other
+
+  pub globe-of : (a : Asked) (sides : ℕ) (s : List Float) (p : Place) (l start n : ℕ) → kindsOf a ≡ 110 ∷ pointKinds 3 12 → sides ≤ 6 → GivesGlobe (badFrame s) (globeReply sides s p l start n) words ns doubles₀ ds k → Holds a (globeReply sides s p l start n) k ns ds
+  globe-of a sides s p l start n t few g =
+      let r = globeReply sides s p l start n in
+      let number : k ≡ r .number = (rw (clear, none) at (g .number)) ∙ globe-framed sides p l start n s in
+      let one : ns ≡ held k 25 (sphere.marksOf (r .values)) (zeros 25) = rw clear at (g .one) in
+      let other : ds ≡ held k 36 (sphere.vectorsOf (r .values)) (zeros 36) = rw none at (g .other) in
+      globe sides p l start n s a t few number one other

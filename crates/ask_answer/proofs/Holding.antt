@@ -1,4 +1,4 @@
--- How the values that the C face gives lie in an answer: numbers alone, doubles alone, a number and a double. Assumes nothing.
+-- How the values that the C face gives lie in an answer: parted into numbers and doubles as the question's kinds say. Assumes nothing.
 use mathlib.Core.Path.{_≡_, refl, sym, ap, _∙_}
 use mathlib.Core.Bool.{Bool, true, false}
 use mathlib.Core.List.{List, [], _∷_, _++_}
@@ -6,7 +6,7 @@ use Prim.Native.Nat.{ℕ, zero, suc, _-_, _≤_}
 use native.Mathlib.Nat.{suc-inj}
 use native.Mathlib.Omega.{arith}
 use lib.Dec.{eqb}
-use lib.ListN.{length, getD, take, drop}
+use lib.ListN.{length, getD, drop}
 use lib.Seq.{drop-at}
 use borrow.Author.Tests.{ne-eqb, le-ltb}
 use Rattle.reply.specs.Choice.{pick}
@@ -42,13 +42,13 @@ zeros-in (k ∷ ks) a b = go (isDouble k) (zeros-in ks a (b - 1)) (zeros-in ks (
 
 -- ---- a refusal leaves all zero
 
-pub refused : (asked : Asked) (n : ℕ) (r : Refusal) {k : ℕ} {ns ds : List ℕ} → length (kindsOf asked) ≡ n → k ≡ numberOf r → ns ≡ zeros 25 → ds ≡ zeros 24 → Holds asked (refusal n r) k ns ds
+pub refused : (asked : Asked) (n : ℕ) (r : Refusal) {k : ℕ} {ns ds : List ℕ} → length (kindsOf asked) ≡ n → k ≡ numberOf r → ns ≡ zeros 25 → ds ≡ zeros 36 → Holds asked (refusal n r) k ns ds
 refused asked n r l e f g =
     record {
       number = e;
-      values = rw (f, g) (zeros-in (kindsOf asked) 25 24 ∙ ap zeros l);
+      values = rw (f, g) (zeros-in (kindsOf asked) 25 36 ∙ ap zeros l);
       other-numbers = rw f (drop-zeros (numbersIn (kindsOf asked)) 25);
-      other-doubles = rw g (drop-zeros (doublesIn (kindsOf asked)) 24);
+      other-doubles = rw g (drop-zeros (doublesIn (kindsOf asked)) 36);
     }
 
 pub kept : (r : Refusal) (k n : ℕ) (vs out : List ℕ) {after : List ℕ} → k ≡ numberOf r → after ≡ held k n vs out → after ≡ out
@@ -56,70 +56,103 @@ kept r k n vs out e h =
     let some : eqb k 0 ≡ false = ne-eqb k 0 (λ z. omega (arith, number-pos r)) in
     rw some at h
 
--- ---- numbers alone
+-- ---- values parted
 
-all-numbers : (ks : List ℕ) → doublesIn ks ≡ 0 → numbersIn ks ≡ length ks
-unfolding doublesIn numbersIn
-all-numbers [] d = refl
-all-numbers (k ∷ ks) d = go (isDouble k) (all-numbers ks) d
+-- numbers and doubles that make the values again by their kinds, whatever stands past them
+pub record Parted (ks vs ns ds : List ℕ) : Type 0 where
+  pub numbers : length ns ≡ numbersIn ks
+  pub doubles : length ds ≡ doublesIn ks
+  pub values : (more past : List ℕ) → valuesIn ks (ns ++ more) (ds ++ past) ≡ vs
+
+pub nothing : Parted [] [] [] []
+unfolding valuesIn numbersIn doublesIn
+nothing = record { numbers = refl; doubles = refl; values = λ more past. refl }
+
+-- one value more in front, a number or a double
+module _ {ks vs ns ds : List ℕ} (k v : ℕ) where
+  pub number : isDouble k ≡ false → Parted ks vs ns ds → Parted (k ∷ ks) (v ∷ vs) (v ∷ ns) ds
+  unfolding valuesIn numbersIn doublesIn
+  number e p =
+      record {
+        numbers = rw e (ap suc (p .numbers));
+        doubles = rw e (p .doubles);
+        values = λ more past. rw e (ap (λ (x : List ℕ). v ∷ x) (p .values more past));
+      }
+
+  pub double : isDouble k ≡ true → Parted ks vs ns ds → Parted (k ∷ ks) (v ∷ vs) ns (v ∷ ds)
+  unfolding valuesIn numbersIn doublesIn
+  double e p =
+      record {
+        numbers = rw e (p .numbers);
+        doubles = rw e (ap suc (p .doubles));
+        values = λ more past. rw e (ap (λ (x : List ℕ). v ∷ x) (p .values more past));
+      }
+
+-- numbers alone, and doubles alone
+all-numbers : (ks vs : List ℕ) → doublesIn ks ≡ 0 → length ks ≡ length vs → Parted ks vs vs []
+unfolding doublesIn
+all-numbers [] [] d l = nothing
+all-numbers [] (v ∷ vs) d l = absurd (omega arith)
+all-numbers (k ∷ ks) [] d l = absurd (omega arith)
+all-numbers (k ∷ ks) (v ∷ vs) d l = go (isDouble k) refl (λ e. all-numbers ks vs e (suc-inj l)) d
   where
-    go : (t : Bool) → (doublesIn ks ≡ 0 → numbersIn ks ≡ length ks) → pick t (suc (doublesIn ks)) (doublesIn ks) ≡ 0 → pick t (numbersIn ks) (suc (numbersIn ks)) ≡ suc (length ks)
-    go true next e = absurd (omega arith)
-    go false next e = ap suc (next e)
+    go : (t : Bool) → isDouble k ≡ t → (doublesIn ks ≡ 0 → Parted ks vs vs []) → pick t (suc (doublesIn ks)) (doublesIn ks) ≡ 0 → Parted (k ∷ ks) (v ∷ vs) (v ∷ vs) []
+    go true t next e = absurd (omega arith)
+    go false t next e = number k v t (next e)
 
-numbers-in : (ks vs more ds : List ℕ) → doublesIn ks ≡ 0 → length ks ≡ length vs → valuesIn ks (vs ++ more) ds ≡ vs
-unfolding valuesIn doublesIn
-numbers-in [] [] more ds d l = refl
-numbers-in [] (v ∷ vs) more ds d l = absurd (omega arith)
-numbers-in (k ∷ ks) [] more ds d l = absurd (omega arith)
-numbers-in (k ∷ ks) (v ∷ vs) more ds d l = go (isDouble k) (λ e. numbers-in ks vs more ds e (suc-inj l)) d
+all-doubles : (ks vs : List ℕ) → numbersIn ks ≡ 0 → length ks ≡ length vs → Parted ks vs [] vs
+unfolding numbersIn
+all-doubles [] [] d l = nothing
+all-doubles [] (v ∷ vs) d l = absurd (omega arith)
+all-doubles (k ∷ ks) [] d l = absurd (omega arith)
+all-doubles (k ∷ ks) (v ∷ vs) d l = go (isDouble k) refl (λ e. all-doubles ks vs e (suc-inj l)) d
   where
-    go : (t : Bool) → (doublesIn ks ≡ 0 → valuesIn ks (vs ++ more) ds ≡ vs) → pick t (suc (doublesIn ks)) (doublesIn ks) ≡ 0 → pick t (getD ds 0 0 ∷ valuesIn ks (v ∷ (vs ++ more)) (drop 1 ds)) (v ∷ valuesIn ks (vs ++ more) ds) ≡ v ∷ vs
-    go true next e = absurd (omega arith)
-    go false next e = ap (λ (x : List ℕ). v ∷ x) (next e)
+    go : (t : Bool) → isDouble k ≡ t → (numbersIn ks ≡ 0 → Parted ks vs [] vs) → pick t (numbersIn ks) (suc (numbersIn ks)) ≡ 0 → Parted (k ∷ ks) (v ∷ vs) [] (v ∷ vs)
+    go true t next e = double k v t (next e)
+    go false t next e = absurd (omega arith)
 
-pub numbers : (asked : Asked) (n : ℕ) (v : Verdict) (vs : List ℕ) {k : ℕ} {ns ds : List ℕ} → length (kindsOf asked) ≡ n → doublesIn (kindsOf asked) ≡ 0 → length vs ≡ n
-    → k ≡ reply n v vs .number → ns ≡ held k n (reply n v vs .values) (zeros 25) → ds ≡ zeros 24 → Holds asked (reply n v vs) k ns ds
-numbers asked n Fine vs {k = k} {ns = ns} {ds = ds} l d m e f g =
-    let here : ns ≡ vs ++ drop n (zeros 25) = rw e at f in
-    let count : numbersIn (kindsOf asked) ≡ n = all-numbers (kindsOf asked) d ∙ l in
+-- ---- a reply in an answer
+
+-- a call that was lent room for m numbers and d doubles, none of which is set, and gives one part of its values as numbers and the other as doubles
+pub holds : (asked : Asked) (n m d : ℕ) (v : Verdict) (vs : List ℕ) (one other : List ℕ → List ℕ) {k : ℕ} {ns ds : List ℕ}
+    → length (kindsOf asked) ≡ n → numbersIn (kindsOf asked) ≡ m → doublesIn (kindsOf asked) ≡ d → (v ≡ Fine → Parted (kindsOf asked) vs (one vs) (other vs))
+    → k ≡ reply n v vs .number → ns ≡ held k m (one (reply n v vs .values)) (zeros 25) → ds ≡ held k d (other (reply n v vs .values)) (zeros 36) → Holds asked (reply n v vs) k ns ds
+holds asked n m d Fine vs one other {ns = ns} {ds = ds} l some more p e f g =
+    let part = p refl in
+    let here : ns ≡ one vs ++ drop m (zeros 25) = rw e at f in
+    let there : ds ≡ other vs ++ drop d (zeros 36) = rw e at g in
     record {
       number = e;
-      values = rw here (numbers-in (kindsOf asked) vs (drop n (zeros 25)) ds d (l ∙ sym m));
-      other-numbers = rw (count, here) (drop-at vs (drop n (zeros 25)) n m ∙ drop-zeros n 25);
-      other-doubles = rw (d, g);
+      values = rw (here, there) (part .values (drop m (zeros 25)) (drop d (zeros 36)));
+      other-numbers = rw (here, some) (drop-at (one vs) (drop m (zeros 25)) m (part .numbers ∙ some) ∙ drop-zeros m 25);
+      other-doubles = rw (there, more) (drop-at (other vs) (drop d (zeros 36)) d (part .doubles ∙ more) ∙ drop-zeros d 36);
     }
-numbers asked n (Refused r) vs {k = k} l d m e f g = refused asked n r l e (kept r k n (zeros n) (zeros 25) e f) g
+holds asked n m d (Refused r) vs one other {k = k} l some more p e f g =
+    refused asked n r l e (kept r k m (one (zeros n)) (zeros 25) e f) (kept r k d (other (zeros n)) (zeros 36) e g)
 
--- the same of a call that is lent a slice of numbers, none of which is set
-pub gives : (asked : Asked) (n : ℕ) (v : Verdict) (vs : List ℕ) {k : ℕ} {out ns ds : List ℕ} → length (kindsOf asked) ≡ n → doublesIn (kindsOf asked) ≡ 0 → length vs ≡ n → n ≤ 25
-    → out ≡ zeros 25 → ds ≡ zeros 24 → Gives n (reply n v vs) out ns k → Holds asked (reply n v vs) k ns ds
-gives asked n v vs {k = k} {ns = ns} l d m room e f g =
-    let r = reply n v vs in
-    let number : k ≡ r .number = rw (e, le-ltb 25 n room) at (g .number) in
-    let held-so : ns ≡ held k n (r .values) (zeros 25) = rw e at (g .values) in
-    numbers asked n v vs l d m number held-so f
+-- no value for a slice leaves it as it was
+unset : (k : ℕ) (out : List ℕ) → held k 0 [] out ≡ out
+unset k out = go (eqb k 0)
+  where
+    go : (t : Bool) → pick t out out ≡ out
+    go true = refl
+    go false = refl
 
--- ---- two doubles, and a number and a double
+module _ (asked : Asked) (n : ℕ) (v : Verdict) (vs : List ℕ) {k : ℕ} {ns ds : List ℕ} (l : length (kindsOf asked) ≡ n) (m : length vs ≡ n) where
+  pub numbers : numbersIn (kindsOf asked) ≡ n → doublesIn (kindsOf asked) ≡ 0 → k ≡ reply n v vs .number → ns ≡ held k n (reply n v vs .values) (zeros 25) → ds ≡ zeros 36 → Holds asked (reply n v vs) k ns ds
+  numbers a b e f g =
+      holds asked n n 0 v vs (λ (x : List ℕ). x) (λ (x : List ℕ). []) l a b (λ fine. all-numbers (kindsOf asked) vs b (l ∙ sym m)) e f (g ∙ sym (unset k (zeros 36)))
 
-pub doubles : (asked : Asked) (v : Verdict) (x y : ℕ) {k : ℕ} {ns ds : List ℕ} → kindsOf asked ≡ 120 ∷ 120 ∷ [] → k ≡ reply 2 v (x ∷ y ∷ []) .number
-    → ds ≡ held k 2 (reply 2 v (x ∷ y ∷ []) .values) (zeros 24) → ns ≡ zeros 25 → Holds asked (reply 2 v (x ∷ y ∷ [])) k ns ds
-unfolding valuesIn numbersIn doublesIn
-doubles asked Fine x y {ds = ds} t e f g =
-    let here : ds ≡ x ∷ y ∷ zeros 22 = rw e at f in
-    record { number = e; values = rw (t, here); other-numbers = rw (t, g); other-doubles = rw (t, here) }
-doubles asked (Refused r) x y {k = k} t e f g = refused asked 2 r (ap length t) e g (kept r k 2 (zeros 2) (zeros 24) e f)
+  pub doubles : numbersIn (kindsOf asked) ≡ 0 → doublesIn (kindsOf asked) ≡ n → k ≡ reply n v vs .number → ds ≡ held k n (reply n v vs .values) (zeros 36) → ns ≡ zeros 25 → Holds asked (reply n v vs) k ns ds
+  doubles a b e f g =
+      holds asked n 0 n v vs (λ (x : List ℕ). []) (λ (x : List ℕ). x) l a b (λ fine. all-doubles (kindsOf asked) vs a (l ∙ sym m)) e (g ∙ sym (unset k (zeros 25))) f
 
-pub both : (asked : Asked) (v : Verdict) (f x : ℕ) {k : ℕ} {ns ds : List ℕ} → kindsOf asked ≡ 110 ∷ 120 ∷ [] → k ≡ reply 2 v (f ∷ x ∷ []) .number
-    → ns ≡ held k 1 (take 1 (reply 2 v (f ∷ x ∷ []) .values)) (zeros 25) → ds ≡ held k 1 (drop 1 (reply 2 v (f ∷ x ∷ []) .values)) (zeros 24)
-    → Holds asked (reply 2 v (f ∷ x ∷ [])) k ns ds
-unfolding valuesIn numbersIn doublesIn
-both asked Fine f x {ns = ns} {ds = ds} t e g h =
-    let one : ns ≡ f ∷ zeros 24 = rw e at g in
-    let other : ds ≡ x ∷ zeros 23 = rw e at h in
-    record { number = e; values = rw (t, one, other); other-numbers = rw (t, one); other-doubles = rw (t, other) }
-both asked (Refused r) f x {k = k} t e g h =
-    refused asked 2 r (ap length t) e (kept r k 1 (zeros 1) (zeros 25) e g) (kept r k 1 (zeros 1) (zeros 24) e h)
+  -- the same of a call that is lent a slice of numbers, or one of doubles, none of which is set
+  pub gives : {out : List ℕ} → numbersIn (kindsOf asked) ≡ n → doublesIn (kindsOf asked) ≡ 0 → n ≤ 25 → out ≡ zeros 25 → ds ≡ zeros 36 → Gives n (reply n v vs) out ns k → Holds asked (reply n v vs) k ns ds
+  gives a b room e f g = numbers a b (rw (e, le-ltb 25 n room) at (g .number)) (rw e at (g .values)) f
+
+  pub gives-doubles : {out : List ℕ} → numbersIn (kindsOf asked) ≡ 0 → doublesIn (kindsOf asked) ≡ n → n ≤ 36 → ns ≡ zeros 25 → out ≡ zeros 36 → Gives n (reply n v vs) out ds k → Holds asked (reply n v vs) k ns ds
+  gives-doubles a b room e f g = doubles a b (rw (f, le-ltb 36 n room) at (g .number)) (rw f at (g .values)) e
 
 -- ---- a lent frame: a bad one is refused first, so that its number is the reply's
 

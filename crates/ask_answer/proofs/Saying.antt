@@ -8,7 +8,7 @@ use lib.ListN.{length, getD, drop}
 use Rattle.reply.specs.Choice.{pick}
 use Rattle.reply.specs.Replies.{Reply}
 use Rattle.ask_read.specs.declared.Asked.{Asked}
-use Rattle.ask_read.specs.declared.Asked.the-variants.{Round, Centre, Meet, Turn, Step, Cross, Settle, Direction, Same, Nearest, Place, Corners, Hexagon, Pentagon, Help, Unreadable}
+use Rattle.ask_read.specs.declared.Asked.the-variants.{Round, Centre, Meet, Turn, Step, Cross, Settle, Direction, Same, Nearest, Place, Corners, Hexagon, Pentagon, Root, Sphere, Globe6, Globe5, Help, Unreadable}
 use Rattle.ask_answer.specs.declared.Answer.{Answer}
 use Rattle.ask_answer.specs.Answers.{kindsOf, isDouble, valuesIn, numbersIn, doublesIn, saidAnswer, Holds, Says}
 
@@ -51,8 +51,8 @@ unfolding valuesIn numbersIn doublesIn
 one [] ns ms ds es a b c d v m w = (m, w)
 one (k ∷ ks) ns ms ds es a b c d v m w = one-more ks (isDouble k) ns ms ds es (one ks) a b c d v m w
 
--- no question has more than 25 numbers or 24 doubles
-room : (asked : Asked) → (numbersIn (kindsOf asked) ≤ 25) × (doublesIn (kindsOf asked) ≤ 24)
+-- no question has more than 25 numbers or 36 doubles
+room : (asked : Asked) → (numbersIn (kindsOf asked) ≤ 25) × (doublesIn (kindsOf asked) ≤ 36)
 unfolding numbersIn doublesIn
 room Round = omega arith
 room Centre = omega arith
@@ -68,11 +68,15 @@ room Place = omega arith
 room Corners = omega arith
 room Hexagon = omega arith
 room Pentagon = omega arith
+room Root = omega arith
+room Sphere = omega arith
+room Globe6 = omega arith
+room Globe5 = omega arith
 room Help = omega arith
 room Unreadable = omega arith
 
--- So an answer with its room of 25 numbers and 24 doubles that says a reply is the only one, doubles by their bits.
-pub one-answer : (asked : Asked) (r : Reply) {k l : ℕ} (ns ms ds es : List ℕ) → length ns ≡ 25 → length ms ≡ 25 → length ds ≡ 24 → length es ≡ 24
+-- So an answer with its room of 25 numbers and 36 doubles that says a reply is the only one, doubles by their bits.
+pub one-answer : (asked : Asked) (r : Reply) {k l : ℕ} (ns ms ds es : List ℕ) → length ns ≡ 25 → length ms ≡ 25 → length ds ≡ 36 → length es ≡ 36
     → Holds asked r k ns ds → Holds asked r l ms es → (k ≡ l) × (ns ≡ ms) × (ds ≡ es)
 one-answer asked r ns ms ds es a b c d g h =
     let f = room asked in

@@ -4,7 +4,7 @@ use mathlib.Core.Bool.{Bool}
 use mathlib.Core.List.{List, [], _∷_}
 use Prim.Native.Nat.{ℕ, suc, _+_, _-_}
 use lib.Dec.{eqb}
-use lib.Ieee.{Float}
+use lib.Ieee.{Float, nan}
 use lib.ListN.{getD, drop}
 use Rattle.reply.specs.Choice.{pick}
 use Rattle.reply.specs.Text.{text}
@@ -23,6 +23,9 @@ use Rattle.vec3d.specs.Nearest.{nearestReply}
 use Rattle.locate.specs.Locating.{locateReply}
 use Rattle.boundary.specs.Corners.{cornersReply}
 use Rattle.boundary.specs.Boundaries.{boundaryReply}
+use Rattle.root.specs.Root.{rootReply}
+use Rattle.globe.specs.Points.{sphereReply}
+use Rattle.globe.specs.Boundaries.{globeReply}
 use Rattle.lent.specs.Lent.{bitsOf}
 use Rattle.ask_read.specs.declared.Asked.{Asked}
 use Rattle.ask_read.specs.declared.Question.{Question}
@@ -62,6 +65,10 @@ replyOf Asked.Place frame ns ds = locateReply frame (numberAt ns 0) (vecAt ds 1)
 replyOf Asked.Corners frame ns ds = cornersReply (placeAt ns 0 2) (numberAt ns 1)
 replyOf Asked.Hexagon frame ns ds = boundaryReply 6 (placeAt ns 0 2) (numberAt ns 1) (numberAt ns 5) (numberAt ns 6)
 replyOf Asked.Pentagon frame ns ds = boundaryReply 5 (placeAt ns 0 2) (numberAt ns 1) (numberAt ns 5) (numberAt ns 6)
+replyOf Asked.Root frame ns ds = rootReply (getD ds 0 nan)
+replyOf Asked.Sphere frame ns ds = sphereReply frame (numberAt ns 0) (numberAt ns 1) (pointAt ds 2)
+replyOf Asked.Globe6 frame ns ds = globeReply 6 frame (placeAt ns 0 2) (numberAt ns 1) (numberAt ns 5) (numberAt ns 6)
+replyOf Asked.Globe5 frame ns ds = globeReply 5 frame (placeAt ns 0 2) (numberAt ns 1) (numberAt ns 5) (numberAt ns 6)
 replyOf Asked.Help frame ns ds = answer []
 replyOf Asked.Unreadable frame ns ds = refusal 0 BadLine
 
@@ -86,6 +93,10 @@ kindsOf Asked.Place = text "nnnn"
 kindsOf Asked.Corners = text "nnnnnnnnnnnnnnnnnnn"
 kindsOf Asked.Hexagon = text "nnxxmnxxmnxxmnxxmnxxmnxxmnxxmnxxmnxxmnxxmnxxmnxxm"
 kindsOf Asked.Pentagon = text "nnxxmnxxmnxxmnxxmnxxmnxxmnxxmnxxmnxxmnxxmnxxmnxxm"
+kindsOf Asked.Root = text "x"
+kindsOf Asked.Sphere = text "xxx"
+kindsOf Asked.Globe6 = text "nnxxxmnxxxmnxxxmnxxxmnxxxmnxxxmnxxxmnxxxmnxxxmnxxxmnxxxmnxxxm"
+kindsOf Asked.Globe5 = text "nnxxxmnxxxmnxxxmnxxxmnxxxmnxxxmnxxxmnxxxmnxxxmnxxxmnxxxmnxxxm"
 kindsOf Asked.Help = text ""
 kindsOf Asked.Unreadable = text ""
 
@@ -118,7 +129,7 @@ pub record Holds (asked : Asked) (r : Reply) (k : ℕ) (ns ds : List ℕ) : Type
   pub number : k ≡ r .number
   pub values : valuesIn (kindsOf asked) ns ds ≡ r .values
   pub other-numbers : drop (numbersIn (kindsOf asked)) ns ≡ zeros (25 - numbersIn (kindsOf asked))
-  pub other-doubles : drop (doublesIn (kindsOf asked)) ds ≡ zeros (24 - doublesIn (kindsOf asked))
+  pub other-doubles : drop (doublesIn (kindsOf asked)) ds ≡ zeros (36 - doublesIn (kindsOf asked))
 
 -- an answer that says a reply and nothing else
 abbrev pub Says : Asked → Reply → Answer → Type 0

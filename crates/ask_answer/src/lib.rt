@@ -1,24 +1,43 @@
 // The answer to a question of the desk tool: each question goes to the C face, with its arguments from the question's fields.
 ghost use mathlib.Core.Path.{_≡_};
 ghost use Rattle.reply.specs.Replies.{zeros};
+ghost use Rattle.vec3d.specs.Frame.{badFrame};
+ghost use Rattle.globe.specs.Boundaries.{sidesOf, globeReply};
 ghost use Rattle.lent.specs.Lent.{bitsOf};
+ghost use Rattle.lent_globe.specs.Globes.{GivesGlobe};
 ghost use Rattle.ask_answer.specs.Answers.{replyTo, numberAt, flagAt, placeAt, Holds, Says};
 ghost use Rattle.ask_read.specs.declared.Asked.the-variants.{Settle};
 ghost use Rattle.faceijk.specs.Entries.{settleReply};
 use ask_read::Asked;
 use ask_read::Question;
+use faceijk::Place;
+use globe::Outline;
 use reply::Refusal;
 
 // What is to be printed: the refusal's number, 0 for none, and the numbers and the doubles in their order; zeros past them.
 pub struct Answer {
     pub number: u32,
     pub numbers: [u64; 25],
-    pub doubles: [f64; 24],
+    pub doubles: [f64; 36],
+}
+
+// Asks for a boundary on the sphere, its fields FACE LEVEL I J K START LENGTH.
+fn call_globe(
+    frame: &[f64],
+    outline: Outline,
+    n: [u32; 8],
+    words: &mut [u32],
+    doubles: &mut [f64],
+) -> u32
+    ensures { λ r. ⌜ GivesGlobe (badFrame (now (frame .entry))) (globeReply (sidesOf outline) (now (frame .entry)) (placeAt n 0 2) (numberAt n 1) (numberAt n 5) (numberAt n 6)) (now (words .entry)) (now (words .exit)) (bitsOf (now (doubles .entry))) (bitsOf (now (doubles .exit))) r ⌝ }
+{
+    let centre = Place::new(n[0], n[2], n[3], n[4]);
+    lent_globe::border(frame, outline, centre, n[1], n[5], n[6], words, doubles)
 }
 
 // Asks what a question asks, settling apart, whose number of steps has 64 bits.
 fn call(frame: &[f64], q: Question, words: &mut [u32], doubles: &mut [f64]) -> u32
-    requires { ⌜ (now words ≡ zeros 25) × (bitsOf (now doubles) ≡ zeros 24) ⌝ }
+    requires { ⌜ (now words ≡ zeros 25) × (bitsOf (now doubles) ≡ zeros 36) ⌝ }
     ensures { λ r. ⌜ ((q .asked ≡ Settle → ⊥) → Holds (q .asked) (replyTo (now (frame .entry)) q) r (now (words .exit)) (bitsOf (now (doubles .exit)))) ⌝ }
 {
     let asked = q.asked;
@@ -45,6 +64,10 @@ fn call(frame: &[f64], q: Question, words: &mut [u32], doubles: &mut [f64]) -> u
         Asked::Pentagon => {
             lent_borders::pentagon(n[0], n[2], n[3], n[4], n[1], n[5], n[6], words, doubles)
         }
+        Asked::Root => lent_globe::root(d[0], doubles),
+        Asked::Sphere => lent_globe::sphere(frame, n[0], n[1], d[2], d[3], doubles),
+        Asked::Globe6 => call_globe(frame, Outline::Hexagon, n, words, doubles),
+        Asked::Globe5 => call_globe(frame, Outline::Pentagon, n, words, doubles),
         Asked::Help => 0,
         Asked::Unreadable => Refusal::BadLine.number(),
     }
@@ -71,7 +94,7 @@ fn settled(n: [u32; 8]) -> Answer
     Answer {
         number,
         numbers,
-        doubles: [0.0; 24],
+        doubles: [0.0; 36],
     }
 }
 
@@ -85,7 +108,7 @@ pub fn answer_to(frame: &[f64], q: Question) -> Answer
         Asked::Settle => settled(n),
         _ => {
             let mut words = [0u32; 25];
-            let mut doubles = [0.0; 24];
+            let mut doubles = [0.0; 36];
             let number = call(frame, q, &mut words, &mut doubles);
             Answer {
                 number,

@@ -75,6 +75,20 @@ fn say_cell_help() -> bool {
         & say(
             b"pentagon FACE LEVEL I J K START LENGTH -- pentagon 0 1 6 0 2 0 5 -- COUNT, then FACE X Y corner|crossing of each point\n",
         )
+}
+
+// Those of roots and of the sphere, and the help itself.
+fn say_sphere_help() -> bool {
+    say(b"root X -- root 2 -- R: the square root of a double\n")
+        & say(
+            b"sphere FACE LEVEL X Y -- sphere 0 0 1 0 -- X Y Z: the unit vector of a plane point of a face\n",
+        )
+        & say(
+            b"globe6 FACE LEVEL I J K START LENGTH -- globe6 0 1 1 0 0 0 6 -- COUNT, then FACE X Y Z corner|crossing of each point\n",
+        )
+        & say(
+            b"globe5 FACE LEVEL I J K START LENGTH -- globe5 0 1 6 0 2 0 5 -- COUNT, then FACE X Y Z corner|crossing of each point\n",
+        )
         & say(b"help -- help -- these lines\n")
 }
 
@@ -135,7 +149,9 @@ fn help(answers: &[u8], k: Kept) -> Kept
     ensures { λ r. ⌜ (r .line ≡ 0) × (r .answers ≡ 0) ⌝ }
 {
     let after = hand_over(answers, k);
-    if after.good & !(say_plane_help() & say_place_help() & say_cell_help() & say_why()) {
+    if after.good
+        & !(say_plane_help() & say_place_help() & say_cell_help() & say_sphere_help() & say_why())
+    {
         return failed(b"ask: the help could not be written\n");
     }
     Kept::new(0, 0, after.good)

@@ -8,7 +8,7 @@ use lib.Ieee.{Float, binary64, ofBits, round, neg}
 use Rattle.bytes.specs.Bytes.{indexOf}
 use Rattle.double.specs.Double.{nought}
 use Rattle.ask_read.specs.Words.{digitOf, withDigit, spelt, plain, numberFrom, numberField, decimalFrom, unsignedField, decimalField, bitsOf, doubleField, same, flagField}
-use Rattle.ask_read.specs.declared.Asked.the-variants.{Round, Cross, Help}
+use Rattle.ask_read.specs.declared.Asked.the-variants.{Round, Cross, Root, Sphere, Globe5, Help}
 use Rattle.ask_read.specs.declared.Question.{Question}
 use Rattle.reply.specs.Text.{text}
 use Rattle.ask_read.specs.Questions.{words, rowOf, rowAt, fieldOf, question, unreadable, filled, questionOf}
@@ -29,6 +29,9 @@ lines =
     "round 1 0 0" ∷
     "cross 0 2 s 14 0 4294967295 yes" ∷
     "direction 0 4294967296" ∷
+    "root -0" ∷
+    "sphere 0 3 0.5 1" ∷
+    "globe5 0 1 6 0 2 0 5" ∷
     "help" ∷
     "" ∷
     []
@@ -45,6 +48,9 @@ asked =
     unreadable ∷
     question Cross (0 ∷ 2 ∷ 1 ∷ 14 ∷ 0 ∷ 4294967295 ∷ 1 ∷ 0 ∷ []) (replicate 8 nought) ∷
     unreadable ∷
+    question Root (replicate 8 0) (two 0x8000_0000_0000_0000 0) ∷
+    question Sphere (0 ∷ 3 ∷ replicate 6 0) (nought ∷ nought ∷ ofBits binary64 0x3fe0_0000_0000_0000 ∷ ofBits binary64 0x3ff0_0000_0000_0000 ∷ replicate 4 nought) ∷
+    question Globe5 (0 ∷ 1 ∷ 6 ∷ 0 ∷ 2 ∷ 0 ∷ 5 ∷ 0 ∷ []) (replicate 8 nought) ∷
     question Help (replicate 8 0) (replicate 8 nought) ∷
     unreadable ∷
     []

@@ -36,11 +36,11 @@ cell wide table n =
 
 abbrev pub nameTable : List ℕ
 nameTable =
-    text "round    centre   meet     turn     step     cross    settle   directionsame     nearest  place    corners  hexagon  pentagon help     "
+    text "round    centre   meet     turn     step     cross    settle   directionsame     nearest  place    corners  hexagon  pentagon root     sphere   globe6   globe5   help     "
 
 abbrev pub kindTable : List ℕ
 kindTable =
-    text "xx      nnn     xxxxxxxxnnnnc   nnpnnnn nnpnnny nnpnnn  nn      nnnnnnnnxxx     nxxx    nnnnn   nnnnnnn nnnnnnn                 "
+    text "xx      nnn     xxxxxxxxnnnnc   nnpnnnn nnpnnny nnpnnn  nn      nnnnnnnnxxx     nxxx    nnnnn   nnnnnnn nnnnnnn x       nnxx    nnnnnnn nnnnnnn                 "
 
 abbrev fits : (Row → List ℕ) → ℕ → List ℕ → ℕ → Bool
 fits column wide table n = same (cell wide table n) (column (rowAt n))
@@ -49,26 +49,26 @@ is-true : (b : Bool) → T b → b ≡ true
 is-true true t = refl
 is-true false t = absurd t
 
-names-fit : T (all (fits (λ (r : Row). r .name) 9 nameTable) 15)
+names-fit : T (all (fits (λ (r : Row). r .name) 9 nameTable) 19)
 unfolding same indexOf slice rowAt
 names-fit = tt
 
-kinds-fit : T (all (fits (λ (r : Row). r .kinds) 8 kindTable) 16)
+kinds-fit : T (all (fits (λ (r : Row). r .kinds) 8 kindTable) 20)
 unfolding same indexOf slice rowAt
 kinds-fit = tt
 
-pub name-at : (n : ℕ) → n < 15 → cell 9 nameTable n ≡ rowAt n .name
-name-at n h = same-is _ _ (is-true _ (at (fits (λ (r : Row). r .name) 9 nameTable) 15 names-fit n h))
+pub name-at : (n : ℕ) → n < 19 → cell 9 nameTable n ≡ rowAt n .name
+name-at n h = same-is _ _ (is-true _ (at (fits (λ (r : Row). r .name) 9 nameTable) 19 names-fit n h))
 
-pub kinds-at : (n : ℕ) → n < 16 → cell 8 kindTable n ≡ rowAt n .kinds
-kinds-at n h = same-is _ _ (is-true _ (at (fits (λ (r : Row). r .kinds) 8 kindTable) 16 kinds-fit n h))
+pub kinds-at : (n : ℕ) → n < 20 → cell 8 kindTable n ≡ rowAt n .kinds
+kinds-at n h = same-is _ _ (is-true _ (at (fits (λ (r : Row). r .kinds) 8 kindTable) 20 kinds-fit n h))
 
 -- what a table's cell is by the place of its blank
-pub named : (w : List ℕ) (n end : ℕ) (b : Bool) → n < 15 → end ≡ 9 * n + indexOf 32 (slice (9 * n) (9 * n + 9) nameTable) → b ≡ same w (take (end - 9 * n) (drop (9 * n) nameTable)) → same w (rowAt n .name) ≡ b
+pub named : (w : List ℕ) (n end : ℕ) (b : Bool) → n < 19 → end ≡ 9 * n + indexOf 32 (slice (9 * n) (9 * n + 9) nameTable) → b ≡ same w (take (end - 9 * n) (drop (9 * n) nameTable)) → same w (rowAt n .name) ≡ b
 named w n end b h e f =
     sym (f ∙ (ap (λ (k : ℕ). same w (take (k - 9 * n) (drop (9 * n) nameTable))) e ∙ ap (same w) (name-at n h)))
 
-pub kinds-of : (n end : ℕ) → n < 16 → end ≡ 8 * n + indexOf 32 (slice (8 * n) (8 * n + 8) kindTable) → take (end - 8 * n) (drop (8 * n) kindTable) ≡ rowAt n .kinds
+pub kinds-of : (n end : ℕ) → n < 20 → end ≡ 8 * n + indexOf 32 (slice (8 * n) (8 * n + 8) kindTable) → take (end - 8 * n) (drop (8 * n) kindTable) ≡ rowAt n .kinds
 kinds-of n end h e = ap (λ (k : ℕ). take (k - 8 * n) (drop (8 * n) kindTable)) e ∙ kinds-at n h
 
 pub kinds-short : (n end : ℕ) (s : List ℕ) → end ≤ 8 * n + 8 → length (take (end - 8 * n) s) ≤ 8
@@ -76,23 +76,23 @@ kinds-short n end s h = omega (arith, length-take (end - 8 * n) s)
 
 -- ---- row after row
 
-pub this-row : (w : List ℕ) (n : ℕ) → n < 15 → same w (rowAt n .name) ≡ true → n + rowOf w (drop n rows) ≡ rowOf w rows → n ≡ rowOf w rows
+pub this-row : (w : List ℕ) (n : ℕ) → n < 19 → same w (rowAt n .name) ≡ true → n + rowOf w (drop n rows) ≡ rowOf w rows → n ≡ rowOf w rows
 unfolding rowOf rowAt
 this-row w n h e m =
     let z : n + 0 ≡ rowOf w rows = rw (drop-cons rows n (row "" Unreadable "") h, e) at m in
     omega arith
 
-pub next-row : (w : List ℕ) (n : ℕ) → n < 15 → same w (rowAt n .name) ≡ false → n + rowOf w (drop n rows) ≡ rowOf w rows → n + 1 + rowOf w (drop (n + 1) rows) ≡ rowOf w rows
+pub next-row : (w : List ℕ) (n : ℕ) → n < 19 → same w (rowAt n .name) ≡ false → n + rowOf w (drop n rows) ≡ rowOf w rows → n + 1 + rowOf w (drop (n + 1) rows) ≡ rowOf w rows
 unfolding rowOf rowAt
 next-row w n h e m =
     let p : n + suc (rowOf w (drop (suc n) rows)) ≡ rowOf w rows = rw (drop-cons rows n (row "" Unreadable "") h, e) at m in
     let q : rowOf w (drop (n + 1) rows) ≡ rowOf w (drop (suc n) rows) = ap (λ (k : ℕ). rowOf w (drop k rows)) (add-one n) in
     omega arith
 
-pub no-row : (w : List ℕ) (n : ℕ) → 15 ≤ n → n + rowOf w (drop n rows) ≡ rowOf w rows → n ≡ rowOf w rows
+pub no-row : (w : List ℕ) (n : ℕ) → 19 ≤ n → n + rowOf w (drop n rows) ≡ rowOf w rows → n ≡ rowOf w rows
 unfolding rowOf
 no-row w n h m = let z = rw (drop-of-length-le rows {i = n} h) at m in omega arith
 
-pub no-more : (n : ℕ) → 15 ≤ n → rowAt n ≡ row "" Unreadable ""
+pub no-more : (n : ℕ) → 19 ≤ n → rowAt n ≡ row "" Unreadable ""
 unfolding rowAt
 no-more n h = List·getD-eq-default rows (row "" Unreadable "") {n = n} h

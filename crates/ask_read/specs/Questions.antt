@@ -12,7 +12,7 @@ use Rattle.ask_read.specs.declared.Field.{Field}
 use Rattle.double.specs.Double.{nought}
 use Rattle.ask_read.specs.Words.{bad, numberField, doubleField, same, flagField}
 use Rattle.ask_read.specs.declared.Asked.{Asked}
-use Rattle.ask_read.specs.declared.Asked.the-variants.{Round, Centre, Meet, Turn, Step, Cross, Settle, Direction, Same, Nearest, Place, Corners, Hexagon, Pentagon, Help, Unreadable}
+use Rattle.ask_read.specs.declared.Asked.the-variants.{Round, Centre, Meet, Turn, Step, Cross, Settle, Direction, Same, Nearest, Place, Corners, Hexagon, Pentagon, Root, Sphere, Globe6, Globe5, Help, Unreadable}
 use Rattle.ask_read.specs.declared.Question.{Question}
 
 -- ---- words
@@ -54,6 +54,10 @@ rows =
     row "corners" Corners "nnnnn" ∷
     row "hexagon" Hexagon "nnnnnnn" ∷
     row "pentagon" Pentagon "nnnnnnn" ∷
+    row "root" Root "x" ∷
+    row "sphere" Sphere "nnxx" ∷
+    row "globe6" Globe6 "nnnnnnn" ∷
+    row "globe5" Globe5 "nnnnnnn" ∷
     row "help" Help "" ∷
     []
 

@@ -296,6 +296,10 @@ pub enum Asked {
     Corners,
     Hexagon,
     Pentagon,
+    Root,
+    Sphere,
+    Globe6,
+    Globe5,
     Help,
     Unreadable,
 }
@@ -385,12 +389,12 @@ fn fill(asked: Asked, kinds: &[u8], line: &[u8], from: usize) -> Question
 
 // What the table says of a row: its name in nine bytes, the kinds of its fields in eight, blanks after both.
 fn row_of(word: &[u8]) -> usize
-    ensures { λ r. ⌜ (r ≡ rowOf (now (word .entry)) rows) × (r ≤ 15) ⌝ }
+    ensures { λ r. ⌜ (r ≡ rowOf (now (word .entry)) rows) × (r ≤ 19) ⌝ }
 {
     let names: &[u8] =
-        b"round    centre   meet     turn     step     cross    settle   directionsame     nearest  place    corners  hexagon  pentagon help     ";
+        b"round    centre   meet     turn     step     cross    settle   directionsame     nearest  place    corners  hexagon  pentagon root     sphere   globe6   globe5   help     ";
     let mut n = 0;
-    while n < 15 {
+    while n < 19 {
         let end = bytes::scan::find(names, 9 * n, 9 * n + 9, b' ');
         if is_same(word, &names[9 * n..end]) {
             return n;
@@ -418,17 +422,21 @@ fn asked_at(row: usize) -> Asked
         11 => Asked::Corners,
         12 => Asked::Hexagon,
         13 => Asked::Pentagon,
-        14 => Asked::Help,
+        14 => Asked::Root,
+        15 => Asked::Sphere,
+        16 => Asked::Globe6,
+        17 => Asked::Globe5,
+        18 => Asked::Help,
         _ => Asked::Unreadable,
     }
 }
 
 fn fill_row(row: usize, line: &[u8], from: usize) -> Question
-    requires { ⌜ (row ≤ 15) × (from ≤ length (now line) + 1) ⌝ }
+    requires { ⌜ (row ≤ 19) × (from ≤ length (now line) + 1) ⌝ }
     ensures { λ r. ⌜ r ≡ filledBy (rowAt row) (wordsFrom (now (line .entry)) from) ⌝ }
 {
     let kinds: &[u8] =
-        b"xx      nnn     xxxxxxxxnnnnc   nnpnnnn nnpnnny nnpnnn  nn      nnnnnnnnxxx     nxxx    nnnnn   nnnnnnn nnnnnnn                 ";
+        b"xx      nnn     xxxxxxxxnnnnc   nnpnnnn nnpnnny nnpnnn  nn      nnnnnnnnxxx     nxxx    nnnnn   nnnnnnn nnnnnnn x       nnxx    nnnnnnn nnnnnnn                 ";
     let end = bytes::scan::find(kinds, 8 * row, 8 * row + 8, b' ');
     let asked = asked_at(row);
     fill(asked, &kinds[8 * row..end], line, from)

@@ -14,27 +14,28 @@ use Rattle.text.specs.Numbers.{field, space, newline}
 use Rattle.text.specs.Writing.{Wrote}
 use Rattle.text.proofs.Unique.{one-wrote}
 use Rattle.ask_read.specs.declared.Asked.{Asked}
-use Rattle.ask_read.specs.declared.Asked.the-variants.{Round, Centre, Meet, Turn, Step, Cross, Settle, Direction, Same, Nearest, Place, Corners, Hexagon, Pentagon, Help, Unreadable}
+use Rattle.ask_read.specs.declared.Asked.the-variants.{Round, Centre, Meet, Turn, Step, Cross, Settle, Direction, Same, Nearest, Place, Corners, Hexagon, Pentagon, Root, Sphere, Globe6, Globe5, Help, Unreadable}
 use Rattle.ask_read.specs.declared.Question.{Question}
 use Rattle.ask_read.specs.Questions.{questionOf, unreadable}
 use Rattle.ask_answer.specs.declared.Answer.{Answer}
 use Rattle.ask_answer.specs.Answers.{Says, saidAnswer, replyTo, replyOf}
 use Rattle.ask_answer.proofs.Saying.{says}
-use Rattle.ask_write.specs.Texts.{textTo, shownOf, nameOf, answerText, valuesText, refusedText, questionText, askText}
+use Rattle.ask_text.specs.Texts.{nameOf, refusedText}
+use Rattle.ask_write.specs.Texts.{textTo, shownOf, answerText, valuesText, questionText, askText}
 
 -- what was written for the question that a line asks and for its reply answers the line
-pub written : (frame : List Float) (bs : List ℕ) (q : Question) (a : Answer) {old new : List ℕ} {n : ℕ} → q ≡ questionOf bs → Says (q .asked) (replyTo frame q) a → Wrote 1100 (answerText (q .asked) (saidAnswer (q .asked) a)) old new n → Wrote 1100 (askText frame bs) old new n
+pub written : (frame : List Float) (bs : List ℕ) (q : Question) (a : Answer) {old new : List ℕ} {n : ℕ} → q ≡ questionOf bs → Says (q .asked) (replyTo frame q) a → Wrote 1300 (answerText (q .asked) (saidAnswer (q .asked) a)) old new n → Wrote 1300 (askText frame bs) old new n
 unfolding askText
 written frame bs q a {old} {new} {n} eq s w =
-    subst (λ (x : List ℕ). Wrote 1100 x old new n) (ap (answerText (q .asked)) (says (q .asked) (replyTo frame q) a s) ∙ ap (questionText frame) eq) w
+    subst (λ (x : List ℕ). Wrote 1300 x old new n) (ap (answerText (q .asked)) (says (q .asked) (replyTo frame q) a s) ∙ ap (questionText frame) eq) w
 
 within-by : (b : Bool) (x old new : List ℕ) (r : ℕ) → r ≡ pick b 0 (length x) → new ≡ pick b old (x ++ drop (length x) old) → r ≤ length new
 within-by true x old new r e n = omega arith
 within-by false x old new r e n = omega (arith, ap length n, length-append x (drop (length x) old))
 
 -- the bytes written are bytes of the buffer
-pub within : {x old new : List ℕ} {r : ℕ} → Wrote 1100 x old new r → r ≤ length new
-within {x} {old} {new} {r} w = within-by (ltb (length old) 1100) x old new r (w .count) (w .bytes)
+pub within : {x old new : List ℕ} {r : ℕ} → Wrote 1300 x old new r → r ≤ length new
+within {x} {old} {new} {r} w = within-by (ltb (length old) 1300) x old new r (w .count) (w .bytes)
 
 -- a line that cannot be read is answered 14
 pub unreadable-text : (frame : List Float) (bs : List ℕ) → questionOf bs ≡ unreadable → askText frame bs ≡ refusedText 14
@@ -75,8 +76,12 @@ some Place frame ns ds h = some-line 110 _ (replyOf Place frame ns ds)
 some Corners frame ns ds h = some-line 110 _ (replyOf Corners frame ns ds)
 some Hexagon frame ns ds h = some-line 110 _ (replyOf Hexagon frame ns ds)
 some Pentagon frame ns ds h = some-line 110 _ (replyOf Pentagon frame ns ds)
+some Globe6 frame ns ds h = some-line 110 _ (replyOf Globe6 frame ns ds)
+some Globe5 frame ns ds h = some-line 110 _ (replyOf Globe5 frame ns ds)
 some Centre frame ns ds h = some-line 120 _ (replyOf Centre frame ns ds)
 some Meet frame ns ds h = some-line 120 _ (replyOf Meet frame ns ds)
+some Root frame ns ds h = some-line 120 _ (replyOf Root frame ns ds)
+some Sphere frame ns ds h = some-line 120 _ (replyOf Sphere frame ns ds)
 some Same frame ns ds h = some-line 97 _ (replyOf Same frame ns ds)
 some Help frame ns ds h = absurd (h refl)
 some Unreadable frame ns ds h = some-refusal 14
@@ -86,5 +91,5 @@ unfolding askText
 other-text frame bs h = let q = questionOf bs in some (q .asked) frame (q .numbers) (q .doubles) h
 
 -- Two outcomes of answering a line that meet one promise coincide: the length, and the whole buffer.
-pub one-reply : (frame : List Float) (bs : List ℕ) {old a b : List ℕ} {m n : ℕ} → Wrote 1100 (askText frame bs) old a m → Wrote 1100 (askText frame bs) old b n → (m ≡ n) × (a ≡ b)
+pub one-reply : (frame : List Float) (bs : List ℕ) {old a b : List ℕ} {m n : ℕ} → Wrote 1300 (askText frame bs) old a m → Wrote 1300 (askText frame bs) old b n → (m ≡ n) × (a ≡ b)
 one-reply frame bs = one-wrote

@@ -16,7 +16,7 @@ use Rattle.ask_answer.proofs.answer_to.Tie as tie
 
 -- the questions other than settling, by their numbers
 abbrev others : List ℕ
-others = 0 ∷ 1 ∷ 2 ∷ 3 ∷ 4 ∷ 5 ∷ 7 ∷ 8 ∷ 9 ∷ 10 ∷ 11 ∷ 12 ∷ 13 ∷ 14 ∷ 15 ∷ []
+others = 0 ∷ 1 ∷ 2 ∷ 3 ∷ 4 ∷ 5 ∷ 7 ∷ 8 ∷ 9 ∷ 10 ∷ 11 ∷ 12 ∷ 13 ∷ 14 ∷ 15 ∷ 16 ∷ 17 ∷ 18 ∷ 19 ∷ []
 
 not-settling : (a : Asked) → OneOf others (tagOf the-type a) → a ≡ Settle → ⊥
 not-settling a h e = miss others 6 tt (subst (λ (x : Asked). OneOf others (tagOf the-type x)) e h)

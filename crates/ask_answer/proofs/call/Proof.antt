@@ -3,15 +3,16 @@ use mathlib.Core.Path.{_≡_, refl, sym, subst}
 use mathlib.Core.List.{List}
 use Prim.Native.Nat.{ℕ}
 use lib.Dec.{lit≤}
-use lib.ListN.{length}
+use lib.Ieee.{nan}
+use lib.ListN.{length, getD}
 use Rattle.reply.specs.declared.Refusal.the-variants.{BadLine}
 use Rattle.vec2d.specs.Points.{pointAt}
 use Rattle.vec3d.specs.Frame.{vecAt}
 use Rattle.ask_read.specs.declared.Asked.{Asked}
-use Rattle.ask_read.specs.declared.Asked.the-variants.{Round, Centre, Meet, Turn, Step, Cross, Settle, Direction, Same, Nearest, Place, Corners, Hexagon, Pentagon, Help, Unreadable}
+use Rattle.ask_read.specs.declared.Asked.the-variants.{Round, Centre, Meet, Turn, Step, Cross, Settle, Direction, Same, Nearest, Place, Corners, Hexagon, Pentagon, Root, Sphere, Globe6, Globe5, Help, Unreadable}
 use Rattle.ask_answer.specs.Answers.{numberAt, flagAt, coordAt, placeAt, replyOf, replyTo, valuesIn, numbersIn, doublesIn, Holds}
 use Rattle.ask_answer.proofs.Holding.{refused}
-use Rattle.ask_answer.proofs.Calls.{round, centre, meet, turn, step, cross, direction, same, nearest, place-of, corners, border-of}
+use Rattle.ask_answer.proofs.Calls.{round, centre, meet, turn, step, cross, direction, same, nearest, place-of, corners, border-of, root, sphere-of, globe-of}
 use borrow.Author.Needs.{needs}
 use Rattle.ask_answer.proofs.call.Statement.{statement}
 use Rattle.ask_answer.proofs.call.Tie as tie
@@ -119,16 +120,45 @@ returns-14 c =
     on s Pentagon (c .before .before .before .before .before .before .before .enum-told14 .given .1) (border-of (s .pre .0) (s .pre .1) Pentagon 5 (placeAt ns 0 2) (numberAt ns 1) (numberAt ns 5) (numberAt ns 6) refl (lit≤ tt) (c .before .before .before .before .pentagon .ensures))
 
 returns-15 : tie.Need-returns-15
-unfolding replyOf valuesIn numbersIn doublesIn
+unfolding replyOf
 returns-15 c =
-    let s = c .before .before .before .before .before .before .before in
-    on s Help (c .enum-told15 .given .1) (record { number = refl; values = refl; other-numbers = s .pre .0; other-doubles = s .pre .1 })
+    let s = c .before .before .before .before .before .before .before .before .before .before .before in
+    let ds = s .args .q .doubles in
+    on s Root (c .before .before .before .before .enum-told15 .given .1) (root (s .pre .0) (s .pre .1) (getD ds 0 nan) (c .before .before .root .ensures))
 
 returns-16 : tie.Need-returns-16
 unfolding replyOf
 returns-16 c =
+    let s = c .before .before .before .before .before .before .before .before .before .before .before in
+    let ns = s .args .q .numbers in
+    let ds = s .args .q .doubles in
+    on s Sphere (c .before .before .before .before .enum-told16 .given .1) (sphere-of (s .pre .0) (s .pre .1) (s .args .frame .now) (numberAt ns 0) (numberAt ns 1) (pointAt ds 2) (c .before .before .sphere .ensures))
+
+returns-17 : tie.Need-returns-17
+unfolding replyOf
+returns-17 c =
+    let s = c .before .before .before .before .before .before .before .before .before .before .before .before .before .before in
+    let ns = s .args .q .numbers in
+    on s Globe6 (c .before .before .before .before .before .before .before .enum-told17 .given .1) (globe-of (s .pre .0) (s .pre .1) Globe6 6 (s .args .frame .now) (placeAt ns 0 2) (numberAt ns 1) (numberAt ns 5) (numberAt ns 6) refl (lit≤ tt) (c .before .before .before .before .call-globe .ensures))
+
+returns-18 : tie.Need-returns-18
+unfolding replyOf
+returns-18 c =
+    let s = c .before .before .before .before .before .before .before .before .before .before .before .before .before .before in
+    let ns = s .args .q .numbers in
+    on s Globe5 (c .before .before .before .before .before .before .before .enum-told18 .given .1) (globe-of (s .pre .0) (s .pre .1) Globe5 5 (s .args .frame .now) (placeAt ns 0 2) (numberAt ns 1) (numberAt ns 5) (numberAt ns 6) refl (lit≤ tt) (c .before .before .before .before .call-globe2 .ensures))
+
+returns-19 : tie.Need-returns-19
+unfolding replyOf valuesIn numbersIn doublesIn
+returns-19 c =
+    let s = c .before .before .before .before .before .before .before in
+    on s Help (c .enum-told19 .given .1) (record { number = refl; values = refl; other-numbers = s .pre .0; other-doubles = s .pre .1 })
+
+returns-20 : tie.Need-returns-20
+unfolding replyOf
+returns-20 c =
     let s = c .before .before .before .before .before .before .before .before in
-    on s Unreadable (c .before .enum-told16 .given .1) (refused Unreadable 0 BadLine refl (c .number .ensures) (s .pre .0) (s .pre .1))
+    on s Unreadable (c .before .enum-told20 .given .1) (refused Unreadable 0 BadLine refl (c .number .ensures) (s .pre .0) (s .pre .1))
 
 pub call-spec : {M : Type 1} → statement M
 call-spec =
@@ -148,8 +178,11 @@ call-spec =
     needs) (λ c. search needs) (λ c. search needs) (λ c. search needs) (λ c. search needs) (λ c. search needs) (λ c. search
     needs) (λ c κs. search needs) (λ c. search needs) (λ c. search needs) (λ c. search needs) (λ c. search needs) (λ c. search
     needs) (λ c. search needs) (λ c. search needs) (λ c. search needs) (λ c κs. search needs) (λ c. search needs) (λ c. search
-    needs) (λ c κs. search needs) (λ c. search needs) returns (λ c. search needs) returns-2 (λ c. search needs) returns-3 (λ c.
-    search needs) returns-4 (λ c. search needs) returns-5 (λ c. search needs) returns-6 returns-7 (λ c. search needs) returns-8
-    (λ c. search needs) returns-9 (λ c. search needs) (λ c. search needs) returns-10 (λ c. search needs) returns-11 (λ c. search
-    needs) returns-12 (λ c. search needs) (λ c. search needs) returns-13 (λ c. search needs) (λ c. search needs) returns-14
-    returns-15 returns-16)
+    needs) (λ c κs. search needs) (λ c. search needs) (λ c. search needs) (λ c. search needs) (λ c. search needs) (λ c. search
+    needs) (λ c κs. search needs) (λ c. search needs) (λ c κs. search needs) (λ c. search needs) (λ c κs. search needs) (λ c.
+    search needs) (λ c. search needs) (λ c κs. search needs) (λ c. search needs) returns (λ c. search needs) returns-2 (λ c.
+    search needs) returns-3 (λ c. search needs) returns-4 (λ c. search needs) returns-5 (λ c. search needs) returns-6 returns-7
+    (λ c. search needs) returns-8 (λ c. search needs) returns-9 (λ c. search needs) (λ c. search needs) returns-10 (λ c. search
+    needs) returns-11 (λ c. search needs) returns-12 (λ c. search needs) (λ c. search needs) returns-13 (λ c. search needs) (λ c.
+    search needs) returns-14 (λ c. search needs) returns-15 (λ c. search needs) returns-16 (λ c. search needs) (λ c. search
+    needs) returns-17 (λ c. search needs) (λ c. search needs) returns-18 returns-19 returns-20)

@@ -10,7 +10,8 @@ use Rattle.text.proofs.Putting.{put-nothing, put-then, put-length}
 use Rattle.lent.specs.Lent.{bitsOf}
 use Rattle.ask_answer.specs.Answers.{isDouble, valuesIn}
 use Rattle.ask_write.specs.Texts.{textTo}
-use Rattle.ask_write.proofs.Lengths.{field-short, text-more}
+use Rattle.ask_text.proofs.Lengths.{field-short}
+use Rattle.ask_write.proofs.Lengths.{text-more}
 use Rattle.ask_write.proofs.Reading.{Left, nothing-read, value-is, one-read, past-within}
 use Rattle.ask_write.proofs.put_values.Statement.{statement}
 use Rattle.ask_write.proofs.put_values.Tie as tie

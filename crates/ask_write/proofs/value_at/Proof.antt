@@ -7,7 +7,7 @@ use Rattle.ask_write.proofs.Reading.{bits-read, bits-past, past-end}
 use Rattle.ask_write.proofs.value_at.Statement.{statement}
 use Rattle.ask_write.proofs.value_at.Tie as tie
 
-doubles : (c : tie.Start) → length (c .args .a .doubles) ≡ 24
+doubles : (c : tie.Start) → length (c .args .a .doubles) ≡ 36
 doubles c = search needs
 
 numbers : (c : tie.Start) → length (c .args .a .numbers) ≡ 25

@@ -8,22 +8,22 @@ use Rattle.ask_write.proofs.write_answer.Statement.{statement}
 use Rattle.ask_write.proofs.write_answer.Tie as tie
 
 returns : tie.Need-returns
-returns c = left-alone 1100 _ (c .before .before .args .buf .now) (c .if1 .taken)
+returns c = left-alone 1300 _ (c .before .before .args .buf .now) (c .if1 .taken)
 
 returns-2 : tie.Need-returns-2
 unfolding answerText
 returns-2 c =
     let p = c .before .before .write-values .ensures in
-    rw (eq-eqb (c .before .before .before .before .before .before .before .args .a .number) 0 (c .before .before .before .before .if2 .taken)) (wrote-line 1100 (c .before .before .before .before .before .if1 .left) (omega (arith, p .1, p .0 .end)) (p .0))
+    rw (eq-eqb (c .before .before .before .before .before .before .before .args .a .number) 0 (c .before .before .before .before .if2 .taken)) (wrote-line 1300 (c .before .before .before .before .before .if1 .left) (omega (arith, p .1, p .0 .end)) (p .0))
 
 write-refused-requires : tie.Need-write-refused-requires
-write-refused-requires c κs = (c .before .before .if1 .left, omega (arith, c .before .if2 .left))
+write-refused-requires c κs = (omega (arith, c .before .before .if1 .left), omega (arith, c .before .if2 .left))
 
 returns-3 : tie.Need-returns-3
 unfolding answerText
 returns-3 c =
     let p = c .before .before .write-refused .ensures in
-    rw (ne-eqb (c .before .before .before .before .before .before .before .args .a .number) 0 (c .before .before .before .before .if2 .left)) (wrote-line 1100 (c .before .before .before .before .before .if1 .left) (omega (arith, p .1, p .0 .end)) (p .0))
+    rw (ne-eqb (c .before .before .before .before .before .before .before .args .a .number) 0 (c .before .before .before .before .if2 .left)) (wrote-line 1300 (c .before .before .before .before .before .if1 .left) (omega (arith, p .1, p .0 .end)) (p .0))
 
 pub write-answer-spec : {M : Type 1} → statement M
 write-answer-spec =

@@ -1,9 +1,9 @@
 -- `put_overage` meets its contract: by the number. Assumes nothing.
 use borrow.Author.Needs.{needs}
 use borrow.Author.Tests.{eq-eqb, ne-eqb}
-use Rattle.ask_write.specs.Texts.{overageText}
-use Rattle.ask_write.proofs.put_overage.Statement.{statement}
-use Rattle.ask_write.proofs.put_overage.Tie as tie
+use Rattle.ask_text.specs.Texts.{overageText}
+use Rattle.ask_text.proofs.put_overage.Statement.{statement}
+use Rattle.ask_text.proofs.put_overage.Tie as tie
 
 returns : tie.Need-returns
 unfolding overageText

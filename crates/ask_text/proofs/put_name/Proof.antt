@@ -1,9 +1,9 @@
 -- `put_name` meets its contract: by the number. Assumes nothing.
 use borrow.Author.Needs.{needs}
-use Rattle.ask_write.specs.Texts.{nameOf}
-use Rattle.ask_write.proofs.Names.{above, last-name}
-use Rattle.ask_write.proofs.put_name.Statement.{statement}
-use Rattle.ask_write.proofs.put_name.Tie as tie
+use Rattle.ask_text.specs.Texts.{nameOf}
+use Rattle.ask_text.proofs.Names.{above, last-name}
+use Rattle.ask_text.proofs.put_name.Statement.{statement}
+use Rattle.ask_text.proofs.put_name.Tie as tie
 
 returns : tie.Need-returns
 unfolding nameOf

@@ -6,10 +6,10 @@ use lib.ListN.{length}
 use Rattle.text.specs.Numbers.{field}
 use Rattle.text.proofs.Decimals.{field-short10}
 use Rattle.text.proofs.Putting.{put-then, put-length}
-use Rattle.ask_write.specs.Texts.{refusedText}
-use Rattle.ask_write.proofs.Names.{name-short}
-use Rattle.ask_write.proofs.write_refused.Statement.{statement}
-use Rattle.ask_write.proofs.write_refused.Tie as tie
+use Rattle.ask_text.specs.Texts.{refusedText}
+use Rattle.ask_text.proofs.Names.{name-short}
+use Rattle.ask_text.proofs.write_refused.Statement.{statement}
+use Rattle.ask_text.proofs.write_refused.Tie as tie
 
 few : (c : tie.Start) → length (field (c .args .number)) ≤ 11
 few c = field-short10 (c .args .number) (search needs)

@@ -1,7 +1,7 @@
 -- `put_either` meets its contract: the first word or the second. Assumes nothing.
 use borrow.Author.Needs.{needs}
-use Rattle.ask_write.proofs.put_either.Statement.{statement}
-use Rattle.ask_write.proofs.put_either.Tie as tie
+use Rattle.ask_text.proofs.put_either.Statement.{statement}
+use Rattle.ask_text.proofs.put_either.Tie as tie
 
 returns : tie.Need-returns
 returns c = rw (c .before .before .before .before .if1 .taken) (c .before .before .put-word .ensures)

@@ -6,7 +6,7 @@ use native.Mathlib.Decide.{decLt}
 use native.Mathlib.Omega.{arith}
 use lib.ListN.{length, getD}
 use Rattle.reply.specs.Text.{text}
-use Rattle.ask_write.specs.Texts.{names, nameOf}
+use Rattle.ask_text.specs.Texts.{names, nameOf}
 
 past-end : (l : List (List ℕ)) (n : ℕ) (d : List ℕ) → length l ≤ n → getD l n d ≡ d
 past-end [] n d h = refl

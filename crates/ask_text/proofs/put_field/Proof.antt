@@ -2,9 +2,9 @@
 use borrow.Author.Needs.{needs}
 use borrow.Author.Tests.{eq-eqb, ne-eqb}
 use Rattle.text.proofs.Putting.{put-then}
-use Rattle.ask_write.specs.Texts.{fieldText}
-use Rattle.ask_write.proofs.put_field.Statement.{statement}
-use Rattle.ask_write.proofs.put_field.Tie as tie
+use Rattle.ask_text.specs.Texts.{fieldText}
+use Rattle.ask_text.proofs.put_field.Statement.{statement}
+use Rattle.ask_text.proofs.put_field.Tie as tie
 
 returns : tie.Need-returns
 unfolding fieldText

@@ -1,9 +1,9 @@
 -- `put_value` meets its contract: by the letter of its kind. Assumes nothing.
 use borrow.Author.Needs.{needs}
 use borrow.Author.Tests.{ne-eqb}
-use Rattle.ask_write.specs.Texts.{valueText, agreedText, markText}
-use Rattle.ask_write.proofs.put_value.Statement.{statement}
-use Rattle.ask_write.proofs.put_value.Tie as tie
+use Rattle.ask_text.specs.Texts.{valueText, agreedText, markText}
+use Rattle.ask_text.proofs.put_value.Statement.{statement}
+use Rattle.ask_text.proofs.put_value.Tie as tie
 
 returns : tie.Need-returns
 unfolding valueText
