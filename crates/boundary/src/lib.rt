@@ -370,6 +370,18 @@ impl Cell {
         self.edge_crossing(away_face(self.centre.face, last.place.face, now), v)
     }
 
+    // The same. It stands apart, for the globe: called from two places, the other would be compiled into neither.
+    fn landed_crossing(self, last: Landed, now: u32, v: usize) -> Before
+        requires { ⌜ Upto 805306368 (coordOf (self .centre)) × (self .centre .face < 20) × (v < 6) ⌝ }
+        ensures { λ r. ⌜ r ≡ hexagonCrossing self last now v ⌝ }
+    {
+        let overage = last.overage;
+        if (last.place.face == now) | is_face_edge(overage) {
+            return Before::Nothing;
+        }
+        self.edge_crossing(away_face(self.centre.face, last.place.face, now), v)
+    }
+
     // The crossing point between two corners of a pentagon, the second stepped over to the face of the first, whose point there is a.
     fn pentagon_crossing(self, last: Place, a: Vec2d, now: Place) -> Before
         requires { ⌜ Okay now × (self .grid ≡ substrateOf (self .level)) × Sound (self .grid) × (a ≡ centreOf (coordOf last)) ⌝ }
@@ -385,7 +397,7 @@ impl Cell {
         cross_at(self.m, over.face, a, b, back)
     }
 
-    // The same with nothing kept from the turn before. It stands apart, for the globe: called from two places, the other would be compiled into neither.
+    // The same with nothing kept from the turn before. It stands apart, for the globe, as the hexagon's does.
     fn settled_crossing(self, last: Place, now: Place) -> Before
         requires { ⌜ Okay now × (self .grid ≡ substrateOf (self .level)) × Sound (self .grid) ⌝ }
         ensures { λ r. ⌜ r ≡ pentagonCrossing self last now ⌝ }
@@ -571,7 +583,7 @@ impl Shape {
             return self.cell.settled_crossing(last.place, now.place);
         }
         self.cell
-            .hexagon_crossing(last, now.place.face, self.vertex(k))
+            .landed_crossing(last, now.place.face, self.vertex(k))
     }
 
     // The points of so many turns round a hexagon, or the refusal of the first crossing point needed. A turn past all corners only looks for a

@@ -28,8 +28,8 @@ returns-2 c =
     let a = b .before .args in
     c .settled-crossing .ensures ∙ pentagon-needed (a .self) (a .k) (a .last) (a .now) (sym (b .bare .ensures) ∙ i .before .if1 .left) (c .before .if2 .taken)
 
-hexagon-crossing-requires : tie.Need-hexagon-crossing-requires
-hexagon-crossing-requires c κs =
+landed-crossing-requires : tie.Need-landed-crossing-requires
+landed-crossing-requires c κs =
     let a = c .before .before .before .before .before in
     let f = a .pre .0 in
     (fit-upto f, f .solid .on, rw (c .vertex .ensures) (vertex-low (a .args .self) (a .args .k) (f .solid)))
@@ -40,12 +40,12 @@ returns-3 c =
     let e = i .before .before in
     let s = e .before .before in
     let a = s .args in
-    c .hexagon-crossing .ensures ∙
+    c .landed-crossing .ensures ∙
     (ap (λ (v : ℕ). hexagonCrossing (a .self .cell) (a .last) (a .now .place .face) v) (c .before .vertex .ensures) ∙
     hexagon-needed (a .self) (a .k) (a .last) (a .now) (sym (e .before .bare .ensures) ∙ e .if1 .left) (six (s .pre .0 .solid) (i .if2 .left)))
 
 pub before-spec : {M : Type 1} → statement M
 before-spec =
     tie.close
-    (tie.spec (λ c κs. search needs) returns settled-crossing-requires returns-2 (λ c κs. search needs) hexagon-crossing-requires
+    (tie.spec (λ c κs. search needs) returns settled-crossing-requires returns-2 (λ c κs. search needs) landed-crossing-requires
     returns-3)
