@@ -18,7 +18,6 @@ use faceijk::Landed;
 use faceijk::Overage;
 use faceijk::Place;
 use level::CellLevel;
-use level::Grid;
 use level::GridLevel;
 use level::Gridded;
 use reply::Refusal;

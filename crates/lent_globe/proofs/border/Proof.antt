@@ -1,9 +1,8 @@
 -- `border` meets its contract: it gives out what the boundary on the sphere is, and the record's refusal decides. Assumes nothing.
 use borrow.Author.Needs.{needs}
 use borrow.Author.Tests.{ltb-false}
-use mathlib.Core.Path.{_≡_, sym, ap, _∙_}
-use mathlib.Core.List.{List, _++_}
-use Prim.Native.Nat.{ℕ}
+use mathlib.Core.Path.{sym, ap, _∙_}
+use mathlib.Core.List.{_++_}
 use lib.Dec.{ltb}
 use lib.ListN.{length, drop}
 use Rattle.reply.proofs.Entries.{neither}

@@ -3,7 +3,6 @@ use borrow.Author.Needs.{needs}
 use native.Mathlib.Omega.{arith}
 use mathlib.Core.List.{[], _∷_}
 use mathlib.Core.Path.{sym, ap, _∙_}
-use Rattle.vec2d.specs.declared.Vec2d.{Vec2d}
 use Rattle.globe.specs.Points.{saidLifted, sphereReply}
 use Rattle.lent.proofs.Framed.{short-framed-doubles, answers-framed-doubles, refuses-framed-doubles}
 use Rattle.lent_globe.proofs.sphere.Statement.{statement}
