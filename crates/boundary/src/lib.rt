@@ -57,7 +57,8 @@ pub struct Boundary {
     pub points: [BoundaryPoint; 12],
 }
 
-// A cell on its substrate grid: its centre there, the grid level, that grid, the limit m of the plain grid, and whether it is of Class III.
+// A cell on its substrate grid: its centre there, the grid level, that grid, the limit m of the plain grid, and whether it is of Class III. Public for the
+// globe, as are `Shape` and `Before` and what makes and asks them.
 pub struct Cell {
     pub centre: Place,
     pub level: GridLevel,
@@ -90,7 +91,7 @@ fn range_verdict(centre: CoordIJK, bad_range: bool) -> Verdict
     centre.verdict()
 }
 
-// The tests of an entry on a cell, in the order of their numbers.
+// The tests of an entry on a cell, in the order of their numbers. Public for the globe.
 pub fn cell_verdict(centre: Place, level: CellLevel, bad_range: bool) -> Verdict
     ensures { λ r. ⌜ r ≡ cellVerdict centre (level .0) «bad_range» ⌝ }
 {
@@ -173,7 +174,7 @@ fn digits(i: u32, j: u32, k: u32, v: usize) -> CoordIJK
 }
 
 impl Cell {
-    // The cell of a centre at a cell level. The substrate grid is the plain grid threefold, so the level is looked up once.
+    // The cell of a centre at a cell level, both tested before. The substrate grid is the plain grid threefold, so the level is looked up once.
     pub fn made(centre: Place, level: CellLevel) -> Cell
         requires { ⌜ Taken (coordOf centre) × (level .0 ≤ 15) ⌝ }
         ensures { λ r. ⌜ r ≡ cellOf centre (level .0) ⌝ }
@@ -461,7 +462,7 @@ impl Boundary {
     }
 }
 
-// A full length makes one more turn.
+// A full length makes one more turn. Public for the globe, which has tested the length.
 pub fn turns_for(sides: u32, length: u32) -> u32
     requires { ⌜ (sides ≤ 6) × (length ≤ sides) ⌝ }
     ensures { λ r. ⌜ r ≡ turnsFor sides length ⌝ }
@@ -496,7 +497,7 @@ impl Shape {
         }
     }
 
-    // The corner at turn k, still on the centre's face.
+    // The corner at turn k, still on the centre's face. Public for the globe.
     pub fn corner(self, k: u32) -> Place
         requires { ⌜ Fit self × (k ≤ self .sides) ⌝ }
         ensures { λ r. ⌜ r ≡ cornerPlace (self .cell) (vertexOf self k) ⌝ }

@@ -39,10 +39,11 @@ withVector f mark v = record { face = f; mark = mark; x = v .x; y = v .y; z = v 
 unfoldable pub imageOf : List Float → Float → BoundaryPoint → SpherePoint
 imageOf s scale p = withVector (p .face) (p .mark) (sphereOf (faceAt s (p .face)) scale (point (p .x) (p .y)))
 
--- what is said of a point that is needed: its own 12 or 13, or 6 or 8 of its projection
+-- what is said of its projection: 6 or 8
 abbrev pub imageVerdict : List Float → Float → BoundaryPoint → Verdict
 imageVerdict s scale p = liftVerdict (faceAt s (p .face)) scale (point (p .x) (p .y))
 
+-- what is said of a point that is needed: its own 12 or 13, or what is said of its projection
 abbrev pub neededVerdict : List Float → Float → Before → Verdict
 neededVerdict s scale Nothing = Fine
 neededVerdict s scale (Point p) = imageVerdict s scale p
