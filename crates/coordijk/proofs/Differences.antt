@@ -86,13 +86,6 @@ plus a b c = go (view a b)
     go (up n p) = ap (λ (z : ℤ). z +ℤ pos c) (diff-pos a b n p) ∙ sym (diff-pos (a + c) b (n + c) (omega arith))
     go (down n p) = ap (λ (z : ℤ). z +ℤ pos c) (diff-neg a b n p) ∙ same c (suc n) (a + c) b (omega arith)
 
-pub taken-off : (i a b : ℕ) → pos i -ℤ (pos a -ℤ pos b) ≡ pos (i + b) -ℤ pos a
-taken-off i a b = go (view a b)
-  where
-    go : View a b → pos i -ℤ (pos a -ℤ pos b) ≡ pos (i + b) -ℤ pos a
-    go (up n p) = ap (λ (z : ℤ). pos i -ℤ z) (diff-pos a b n p) ∙ same i n (i + b) a (omega arith)
-    go (down n p) = ap (λ (z : ℤ). pos i -ℤ z) (diff-neg a b n p) ∙ sym (diff-pos (i + b) a (i + suc n) (omega arith))
-
 pub less : (a b c : ℕ) → (pos a -ℤ pos b) -ℤ pos c ≡ pos a -ℤ pos (b + c)
 less a b c = go c (view a b)
   where
@@ -107,6 +100,28 @@ sum a b c d = go (view c d)
     go : View c d → (pos a -ℤ pos b) +ℤ (pos c -ℤ pos d) ≡ pos (a + c) -ℤ pos (b + d)
     go (up n p) = ap (λ (z : ℤ). (pos a -ℤ pos b) +ℤ z) (diff-pos c d n p) ∙ plus a b n ∙ same (a + n) b (a + c) (b + d) (omega arith)
     go (down n p) = ap (λ (z : ℤ). (pos a -ℤ pos b) +ℤ z) (diff-neg c d n p) ∙ less a b (suc n) ∙ same a (b + suc n) (a + c) (b + d) (omega arith)
+
+pub minus : (a b c d : ℕ) → (pos a -ℤ pos b) -ℤ (pos c -ℤ pos d) ≡ pos (a + d) -ℤ pos (b + c)
+minus a b c d = go (view c d)
+  where
+    go : View c d → (pos a -ℤ pos b) -ℤ (pos c -ℤ pos d) ≡ pos (a + d) -ℤ pos (b + c)
+    go (up n p) = ap (λ (z : ℤ). (pos a -ℤ pos b) -ℤ z) (diff-pos c d n p) ∙ less a b n ∙ same a (b + n) (a + d) (b + c) (omega arith)
+    go (down n p) = ap (λ (z : ℤ). (pos a -ℤ pos b) -ℤ z) (diff-neg c d n p) ∙ plus a b (suc n) ∙ same (a + suc n) b (a + d) (b + c) (omega arith)
+
+pub turned : (a b : ℕ) → negℤ (pos a -ℤ pos b) ≡ pos b -ℤ pos a
+turned a b = go (view a b)
+  where
+    go : View a b → negℤ (pos a -ℤ pos b) ≡ pos b -ℤ pos a
+    go (up n p) = ap negℤ (diff-pos a b n p) ∙ sym (from-nought n) ∙ same 0 n b a (omega arith)
+    go (down n p) = ap negℤ (diff-neg a b n p) ∙ sym (diff-pos b a (suc n) p)
+
+-- every number with sign is a difference
+pub data Difference (z : ℤ) : Type 0 where
+  of : (a b : ℕ) → z ≡ pos a -ℤ pos b → Difference z
+
+pub difference : (z : ℤ) → Difference z
+difference (pos n) = of n 0 (sym (diff-pos n 0 n (omega arith)))
+difference (negsuc n) = of 0 (suc n) (sym (diff-neg 0 (suc n) n (omega arith)))
 
 -- a row of a table applied to differences
 pub line : (p q r a a' b b' c c' : ℕ)
@@ -134,8 +149,4 @@ order a b d = go (view a d) (view b d)
     go (down n p) (down m q) = by (negsuc n) (negsuc m) (diff-neg a d n p) (diff-neg b d m q) (alike m n (λ h. omega arith) (λ h. omega arith))
 
 pub apart : (a l d : ℕ) → l ≤ a → (pos a -ℤ pos d) -ℤ (pos l -ℤ pos d) ≡ pos (a - l)
-apart a l d h = go (view l d)
-  where
-    go : View l d → (pos a -ℤ pos d) -ℤ (pos l -ℤ pos d) ≡ pos (a - l)
-    go (up n p) = ap (λ (z : ℤ). (pos a -ℤ pos d) -ℤ z) (diff-pos l d n p) ∙ less a d n ∙ diff-pos a (d + n) (a - l) (omega arith)
-    go (down n p) = ap (λ (z : ℤ). (pos a -ℤ pos d) -ℤ z) (diff-neg l d n p) ∙ plus a d (suc n) ∙ diff-pos (a + suc n) d (a - l) (omega arith)
+apart a l d h = minus a d l d ∙ diff-pos (a + d) (d + l) (a - l) (omega arith)

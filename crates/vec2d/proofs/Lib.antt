@@ -1,6 +1,7 @@
 -- Laws of `vec2d`: rounding, its range and leftovers, the checked places, unique answers.
 pub mod Folding
-pub mod Flat
+pub mod SourceFolds
+pub mod Mirror
 pub mod Whole
 pub mod Accepted
 pub mod Answers

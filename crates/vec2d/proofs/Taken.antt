@@ -12,7 +12,7 @@ use Rattle.coordijk.proofs.Taking.{passes}
 use Rattle.vec2d.specs.declared.Vec2d.{Vec2d}
 use Rattle.vec2d.specs.Rounding.{roundVerdict, Near, quantizedOf, stepsOf, raisedBy, nearestOf}
 use Rattle.vec2d.proofs.Accepted.{accepted, first-whole, second-whole}
-use Rattle.vec2d.proofs.Folding.{liftedOf, folded}
+use Rattle.vec2d.proofs.Folding.{liftedOf, lifted}
 
 largest-le : (a b c n : ℕ) → a ≤ n → b ≤ n → c ≤ n → max a (max b c) ≤ n
 largest-le a b c n p q r = omega arith
@@ -25,7 +25,7 @@ reduced-small a b c h = largest-le _ _ _ 67108864 (omega arith) (omega arith) (o
 
 fold-taken : (l d : Bool) (i j : ℕ) → i ≤ 2 ^ 26 → j ≤ 2 ^ 26 → Taken (liftedOf l d i j)
 fold-taken false false i j p q = record { flat = reduced-flat i j 0; low = reduced-small i j 0 (omega arith) }
-fold-taken true false i j p q = record { flat = reduced-flat j (j + i) i; low = reduced-small j (j + i) i (omega arith) }
+fold-taken true false i j p q = record { flat = reduced-flat j (i + j) i; low = reduced-small j (i + j) i (omega arith) }
 fold-taken false true i j p q = record { flat = reduced-flat i 0 j; low = reduced-small i 0 j (omega arith) }
 fold-taken true true i j p q = record { flat = reduced-flat j i (i + j); low = reduced-small j i (i + j) (omega arith) }
 
@@ -38,7 +38,7 @@ unfolding nearestOf quantizedOf
 near-taken v p =
     let q = quantizedOf v in
     let s = stepsOf (q .r1) (q .r2) in
-    subst Taken (sym (folded (lt (v .x) nought) (lt (v .y) nought) (raisedBy (s .i) (q .m1)) (raisedBy (s .j) (q .m2))))
+    subst Taken (sym (lifted (lt (v .x) nought) (lt (v .y) nought) (raisedBy (s .i) (q .m1)) (raisedBy (s .j) (q .m2))))
     (fold-taken (lt (v .x) nought) (lt (v .y) nought) _ _ (raised-le (s .i) (q .m1) (first-whole v p)) (raised-le (s .j) (q .m2) (second-whole v p)))
 
 -- Every accepted rounding gives a reduced triple with no coordinate above 2^26.

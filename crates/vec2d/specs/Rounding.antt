@@ -2,8 +2,7 @@
 use mathlib.Core.Bool.{Bool, true, false, not, _&&_, _||_}
 use mathlib.Core.List.{List, [], _∷_}
 use Prim.Native.Nat.{ℕ, _+_, _^_}
-use lib.IntN.{ℤ, pos, negℤ, _+ℤ_, _-ℤ_, _*ℤ_}
-use lib.Signed.{quotZ, remZ}
+use lib.IntN.{ℤ, pos, negℤ, _-ℤ_}
 use lib.Ieee.{Float, binary64, ofBits, add, sub, mul, div, lt, le}
 use Rattle.reply.specs.Choice.{pick}
 use Rattle.reply.specs.declared.Verdict.{Verdict}
@@ -13,7 +12,7 @@ use Rattle.double.specs.Double.{nought, half, one, two, three, rsin60, limit, s
 use Rattle.double.specs.Sizes.{Under}
 use Rattle.coordijk.specs.declared.CoordIJK.{CoordIJK}
 use Rattle.coordijk.specs.Coordinates.{coordValues}
-use Rattle.coordijk.specs.Signed.{signed, reducedZ}
+use Rattle.coordijk.specs.Signed.{Signed, signed, reducedZ}
 use Rattle.vec2d.specs.declared.Vec2d.{Vec2d}
 use Rattle.vec2d.specs.declared.Quantized.{Quantized}
 use Rattle.vec2d.specs.declared.Steps.{Steps}
@@ -54,35 +53,41 @@ x1Of v = add binary64 (sizeOf (v .x)) (div binary64 (x2Of v) two)
 unfoldable pub quantizedOf : Vec2d → Quantized
 quantizedOf v = record { m1 = wholeOf (x1Of v); m2 = wholeOf (x2Of v); r1 = leftOf (x1Of v); r2 = leftOf (x2Of v) }
 
--- The branches in the source's order, by the leftovers: whether i is m1 + 1, and whether j is m2 + 1. `mul_add(2.0, r1, -1.)` is 2·r1 - 1, which has the same bits rounded once or twice (`once-or-twice` of proofs/Leftovers).
+-- whether i is m1 + 1, and whether j is m2 + 1
+abbrev pub steps : Bool → Bool → Steps
+steps i j = record { i = i; j = j }
+
+-- The branches in the source's order: four stripes of r1, and in each one test for i and one for j.
+--   r1          i is m1 + 1 where               j is m2 + 1 where
+--   below 1/3   never                           r2 ≥ (1 + r1)/2
+--   below 1/2   r2 ≥ 1 - r1 and r2 < 2·r1       r2 ≥ 1 - r1
+--   below 2/3   r2 ≤ 2·r1 - 1 or r2 ≥ 1 - r1    r2 ≥ 1 - r1
+--   the rest    always                          r2 ≥ r1/2
+-- `mul_add(2.0, r1, -1.)` is 2·r1 - 1, which has the same bits rounded once or twice (`once-or-twice` of proofs/Leftovers).
 unfoldable pub stepsOf : Float → Float → Steps
 stepsOf r1 r2 =
-    let rest = sub binary64 one r1 in
+    let past = le (sub binary64 one r1) r2 in
+    let twice = mul binary64 two r1 in
+    let belowThird = steps false (le (div binary64 (add binary64 one r1) two) r2) in
+    let belowHalf = steps (past && lt r2 twice) past in
+    let belowTwoThirds = steps (le r2 (sub binary64 twice one) || past) past in
+    let rest = steps true (le (div binary64 r1 two) r2) in
     pick (lt r1 half)
-    (pick (lt r1 (div binary64 one three))
-    (record { i = false; j = le (div binary64 (add binary64 one r1) two) r2 })
-    (record { i = le rest r2 && lt r2 (mul binary64 two r1); j = le rest r2 }))
-    (pick (lt r1 (div binary64 two three))
-    (record { i = le r2 (sub binary64 (mul binary64 two r1) one) || le rest r2; j = le rest r2 })
-    (record { i = true; j = le (div binary64 r1 two) r2 }))
+    (pick (lt r1 (div binary64 one three)) belowThird belowHalf)
+    (pick (lt r1 (div binary64 two three)) belowTwoThirds rest)
 
 abbrev pub raisedBy : Bool → ℕ → ℕ
 raisedBy b m = pick b (m + 1) m
 
--- The folds of the source: for x < 0 by the axis that j's parity shifts, then for y < 0, where j's sign turns too.
-abbrev pub leftFold : ℤ → ℤ → ℤ
-leftFold i j =
-    let offset = remZ j (pos 2) in
-    let axis = quotZ (j +ℤ offset) (pos 2) in
-    i -ℤ (pos 2 *ℤ (i -ℤ axis) +ℤ offset)
-
-abbrev pub downFold : ℤ → ℤ → ℤ
-downFold i j = i -ℤ quotZ (pos 2 *ℤ j +ℤ pos 1) (pos 2)
+-- The folds: for x < 0 the first coordinate becomes j - i, and for y < 0 it becomes i - j while j changes sign. They mirror the hexagon, whose centre lies at
+-- x = i - j/2 and y = j·sin 60°: with j - i beside j only x changes its sign, with i - j beside -j only y (proofs/Mirror).
+abbrev pub folded : Bool → Bool → ℤ → ℤ → Signed
+folded left down i j =
+    let across = pick left (j -ℤ i) i in
+    signed (pick down (across -ℤ j) across) (pick down (negℤ j) j) (pos 0)
 
 unfoldable pub foldOf : Bool → Bool → ℕ → ℕ → CoordIJK
-foldOf left down i j =
-    let across = pick left (leftFold (pos i) (pos j)) (pos i) in
-    reducedZ (signed (pick down (downFold across (pos j)) across) (pick down (negℤ (pos j)) (pos j)) (pos 0))
+foldOf left down i j = reducedZ (folded left down (pos i) (pos j))
 
 -- The hexagon of an accepted point. Minus zero is not below zero.
 unfoldable pub nearestOf : Vec2d → CoordIJK

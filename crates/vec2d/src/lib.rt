@@ -3,7 +3,7 @@ ghost use mathlib.Core.Path.{_≡_};
 ghost use Prim.Native.Nat.{_≤_, _<_, _^_};
 ghost use Rattle.reply.specs.Choice.{pick};
 ghost use Rattle.vec2d.specs.Points.{point, isPoint, saidPointed};
-ghost use Rattle.vec2d.specs.Rounding.{tooFar, inside, roundVerdict, Near, quantizedOf, stepsOf, raisedBy, foldOf, nearestOf, saidRounded, roundReply};
+ghost use Rattle.vec2d.specs.Rounding.{tooFar, inside, roundVerdict, Near, quantizedOf, steps, stepsOf, raisedBy, foldOf, nearestOf, saidRounded, roundReply};
 ghost use Rattle.vec2d.specs.Centre.{centreOf, centreReply};
 ghost use Rattle.vec2d.specs.Meeting.{along, divisorOf, shareOf, reachedOf, crossingOf, metOf, isLine, meetReply};
 ghost use Rattle.vec2d.specs.Closeness.{within, close, saidAlike, alikeReply};
@@ -64,21 +64,38 @@ pub struct Crossing {
     pub at: Vec2d,
 }
 
-// The branches in the source's order, a choice by the two leftovers alone, as sums of tests: no branch is taken, so none is guessed wrong.
+impl Steps {
+    fn new(i: bool, j: bool) -> Steps
+        ensures { λ r. ⌜ r ≡ steps i j ⌝ }
+    {
+        Steps { i, j }
+    }
+
+    // One of two, as sums of tests: no branch is taken, so none is guessed wrong.
+    fn either(yes: bool, a: Steps, b: Steps) -> Steps
+        ensures { λ r. ⌜ r ≡ pick yes a b ⌝ }
+    {
+        Steps {
+            i: (yes & a.i) | (!yes & b.i),
+            j: (yes & a.j) | (!yes & b.j),
+        }
+    }
+}
+
+// Which hexagon, by the two leftovers alone: four stripes of r1 in the source's order, and in each one test for i and one for j.
 fn chosen(r1: f64, r2: f64) -> Steps
     ensures { λ r. ⌜ r ≡ stepsOf r1 r2 ⌝ }
 {
-    let rest = 1.0 - r1;
-    let half = r1 < 0.5;
-    let low = r1 < 1.0 / 3.0;
-    let third = r1 < 2.0 / 3.0;
-    let past = r2 >= rest;
-    Steps {
-        i: (half & !low & past & (r2 < 2.0 * r1))
-            | (!half & (!third | past | (2.0 * r1 - 1.0 >= r2))),
-        j: (half & ((low & (r2 >= (1.0 + r1) / 2.0)) | (!low & past)))
-            | (!half & ((third & past) | (!third & (r2 >= r1 / 2.0)))),
-    }
+    let past = r2 >= 1.0 - r1;
+    let below_third = Steps::new(false, r2 >= (1.0 + r1) / 2.0);
+    let below_half = Steps::new(past & (r2 < 2.0 * r1), past);
+    let below_two_thirds = Steps::new((r2 <= 2.0 * r1 - 1.0) | past, past);
+    let rest = Steps::new(true, r2 >= r1 / 2.0);
+    Steps::either(
+        r1 < 0.5,
+        Steps::either(r1 < 1.0 / 3.0, below_third, below_half),
+        Steps::either(r1 < 2.0 / 3.0, below_two_thirds, rest),
+    )
 }
 
 // One of two numbers.
@@ -98,20 +115,21 @@ fn raised(m: u32, up: bool) -> u32
 }
 
 impl Axial {
-    // The folds for x < 0 and y < 0 and then reducing, as what they come to: x < 0 sends i, j, 0 to j - i, j, 0, which reducing lifts by i where i is
-    // above j; y < 0 exchanges the last two. One of two numbers each time, so that no branch is guessed wrong.
+    // The folds: for x < 0 the first coordinate becomes j - i, and for y < 0 it becomes i - j while j changes sign. They mirror the hexagon, whose centre
+    // lies at x = i - j/2 and y = j·sin 60°. One number added to all three coordinates changes nothing once they are reduced, so none goes below zero here;
+    // and each fold takes one of two numbers that are both at hand, so no branch is guessed wrong.
     fn fold(self, left: bool, down: bool) -> CoordIJK
         requires { ⌜ (self .i ≤ 2 ^ 26) × (self .j ≤ 2 ^ 26) ⌝ }
         ensures { λ r. ⌜ r ≡ foldOf left down (self .i) (self .j) ⌝ }
     {
         let i = self.i;
         let j = self.j;
-        let under = i <= j;
-        let least = either(under, i, j);
-        let most = either(under, j, i);
-        let first = either(left, j - least, i);
+        // x < 0: j - i, j, 0. With j taken off that is -i, 0, -j, and reduced with the greater of i and j added.
+        let most = either(i <= j, j, i);
+        let first = either(left, most - i, i);
         let second = either(left, most, j);
-        let third = either(left, i - least, 0);
+        let third = either(left, most - j, 0);
+        // y < 0: i - j, -j, 0. With j added that is i, 0, j: the last two change places.
         CoordIJK::new(
             first,
             either(down, third, second),
