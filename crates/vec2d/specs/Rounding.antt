@@ -80,7 +80,8 @@ abbrev pub raisedBy : Bool → ℕ → ℕ
 raisedBy b m = pick b (m + 1) m
 
 -- The folds: for x < 0 the first coordinate becomes j - i, and for y < 0 it becomes i - j while j changes sign. They mirror the hexagon, whose centre lies at
--- x = i - j/2 and y = j·sin 60°: with j - i beside j only x changes its sign, with i - j beside -j only y (proofs/Mirror).
+-- x = i - j/2 and y = j·sin 60°: with j - i beside j only x changes its sign, with i - j beside -j only y (proofs/Mirror). The source has an offset for j's
+-- parity, which cancels (specs/SourceFolds).
 abbrev pub folded : Bool → Bool → ℤ → ℤ → Signed
 folded left down i j =
     let across = pick left (j -ℤ i) i in
