@@ -6,10 +6,20 @@ use lib.Signed.{quotZ, remZ}
 use Rattle.reply.specs.Choice.{pick}
 use Rattle.coordijk.specs.Signed.{Signed, signed}
 
+-- `j % 2`
+abbrev pub offsetOf : ℤ → ℤ
+offsetOf j = remZ j (pos 2)
+
+-- `i32::midpoint(j, offset)`
+abbrev pub axisOf : ℤ → ℤ
+axisOf j = quotZ (j +ℤ offsetOf j) (pos 2)
+
+-- `(2 * j + 1) / 2`
+abbrev pub halfOf : ℤ → ℤ
+halfOf j = quotZ (pos 2 *ℤ j +ℤ pos 1) (pos 2)
+
 abbrev pub sourceFolded : Bool → Bool → ℤ → ℤ → Signed
 sourceFolded left down i j =
-    let offset = remZ j (pos 2) in
-    let axis = quotZ (j +ℤ offset) (pos 2) in
-    let diff = i -ℤ axis in
-    let across = pick left (i -ℤ (pos 2 *ℤ diff +ℤ offset)) i in
-    signed (pick down (across -ℤ quotZ (pos 2 *ℤ j +ℤ pos 1) (pos 2)) across) (pick down (negℤ j) j) (pos 0)
+    let diff = i -ℤ axisOf j in
+    let across = pick left (i -ℤ (pos 2 *ℤ diff +ℤ offsetOf j)) i in
+    signed (pick down (across -ℤ halfOf j) across) (pick down (negℤ j) j) (pos 0)
