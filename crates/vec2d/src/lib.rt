@@ -116,8 +116,8 @@ fn raised(m: u32, up: bool) -> u32
 
 impl Axial {
     // The folds: for x < 0 the first coordinate becomes j - i, and for y < 0 it becomes i - j while j changes sign. They mirror the hexagon, whose centre
-    // lies at x = i - j/2 and y = j·sin 60°; the source's offset for j's parity cancels. Both forms are one, since a number added to all three coordinates
-    // changes nothing once they are reduced: so none goes below zero here. Each fold takes one of two numbers at hand, so no branch is guessed wrong.
+    // lies at x = i - j/2 and y = j·sin 60°; the source's offset for j's parity cancels. What stands here is the same without a number below zero, since one
+    // number added to all three coordinates changes nothing once they are reduced; and without a branch to be guessed wrong, since both numbers are at hand.
     fn fold(self, left: bool, down: bool) -> CoordIJK
         requires { ⌜ (self .i ≤ 2 ^ 26) × (self .j ≤ 2 ^ 26) ⌝ }
         ensures { λ r. ⌜ r ≡ foldOf left down (self .i) (self .j) ⌝ }
@@ -129,7 +129,7 @@ impl Axial {
         let first = either(left, most - i, i);
         let second = either(left, most, j);
         let third = either(left, most - j, 0);
-        // y < 0: i - j, -j, 0. With j added that is i, 0, j: the last two change places.
+        // y < 0: i - j, -j, 0. With j added that is i, 0, j: the last two change places, after the other fold too.
         CoordIJK::new(
             first,
             either(down, third, second),
