@@ -55,7 +55,8 @@ enum heddleplume_refusal {
     HEDDLEPLUME_TOO_FAR = 9,       /* a plane point with a part of 2^25 or more: the point lies on no face */
     HEDDLEPLUME_NOT_REDUCED = 10,  /* no coordinate is 0, or one is above 2^26: subtract the least from all three */
     HEDDLEPLUME_OUT_OF_FACE = 11,  /* a border's centre lies outside its face: at an even level settle it first, at an odd one it
-                                      has no border here */
+                                      has no border here. Also a corner that lies outside its face: settle it first, on its
+                                      substrate grid */
     HEDDLEPLUME_NOT_ADJACENT = 12, /* a border runs over faces that are not neighbours: the centre is no pentagon's, or the pentagon is
                                       named on a face where it lies on the j or k axis: name it where it lies on the i axis */
     HEDDLEPLUME_NO_CROSSING = 13,  /* two lines do not meet */
@@ -242,11 +243,21 @@ uint32_t heddleplume_settle(uint32_t face, uint32_t i, uint32_t j, uint32_t k, u
                             size_t out_len);
 
 /*
- * Whether two corners are one: the same face and the same coordinates.
- * Writes out[0]: 1 yes, 0 no. Refusals: 2, 3, 10, the last two of either corner.
+ * Whether two corners are one. `level` is a grid level, and both are places of its substrate grid, whose i + j + k is at most the limit
+ * that heddleplume_grid gives. Where i + j + k is that limit, the corner lies on an edge, on IJ if k is 0, on KI if j is 0, on JK if i is
+ * 0, and heddleplume_step over that edge gives another name of it: there are two on an edge, five where two edges end. The answer is yes
+ * exactly when such steps lead from the one name to the other.
+ * Writes out[0]: 1 yes, 0 no. Refusals: 2, 3, 4, 10, 11; 3, 10 and 11 of either corner.
  */
 uint32_t heddleplume_same_corner(uint32_t face, uint32_t i, uint32_t j, uint32_t k, uint32_t other_face, uint32_t other_i,
-                                 uint32_t other_j, uint32_t other_k, uint32_t *out, size_t out_len);
+                                 uint32_t other_j, uint32_t other_k, uint32_t level, uint32_t *out, size_t out_len);
+
+/*
+ * The first name of a corner: of all its names, as heddleplume_same_corner takes them, the one with the lowest face. Two corners are the
+ * same exactly when their first names are equal; the first name of a first name is itself. `level` is a grid level.
+ * Writes out[0..3]: face i j k. Refusals: 2, 3, 4, 10, 11.
+ */
+uint32_t heddleplume_first_name(uint32_t face, uint32_t i, uint32_t j, uint32_t k, uint32_t level, uint32_t *out, size_t out_len);
 
 /* ---- Corners and borders ---- */
 

@@ -118,7 +118,8 @@ fn on_sphere(ask: impl FnOnce(&mut [u32], &mut [f64]) -> u32) -> Result<SphereBo
 }
 
 impl FaceIJK {
-    /// The corners of the cell. Refusals: 3, 4, 10.
+    /// The corners of the cell, all named from its own face, also those that lie outside of it. To compare them with another cell's,
+    /// [`settle`](FaceIJK::settle) each on the substrate grid and take its [`first_name`](FaceIJK::first_name). Refusals: 3, 4, 10.
     pub fn corners(self, level: CellLevel) -> Result<Corners, Refusal> {
         let mut out = [0; 19];
         answered(ffi::corners(self.into(), level.0, &mut out))?;

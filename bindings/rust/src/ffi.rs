@@ -25,7 +25,8 @@ mod c {
         pub fn heddleplume_step(face: u32, i: u32, j: u32, k: u32, level: u32, substrate: bool, edge: u32, out: *mut u32, out_len: usize) -> u32;
         pub fn heddleplume_cross(face: u32, i: u32, j: u32, k: u32, level: u32, substrate: bool, turn: bool, out: *mut u32, out_len: usize) -> u32;
         pub fn heddleplume_settle(face: u32, i: u32, j: u32, k: u32, level: u32, substrate: bool, out: *mut u64, out_len: usize) -> u32;
-        pub fn heddleplume_same_corner(face: u32, i: u32, j: u32, k: u32, other_face: u32, other_i: u32, other_j: u32, other_k: u32, out: *mut u32, out_len: usize) -> u32;
+        pub fn heddleplume_same_corner(face: u32, i: u32, j: u32, k: u32, other_face: u32, other_i: u32, other_j: u32, other_k: u32, level: u32, out: *mut u32, out_len: usize) -> u32;
+        pub fn heddleplume_first_name(face: u32, i: u32, j: u32, k: u32, level: u32, out: *mut u32, out_len: usize) -> u32;
         pub fn heddleplume_corners(face: u32, i: u32, j: u32, k: u32, level: u32, out: *mut u32, out_len: usize) -> u32;
         pub fn heddleplume_hexagon(face: u32, i: u32, j: u32, k: u32, level: u32, start: u32, length: u32, marks: *mut u32, marks_len: usize, points: *mut f64, points_len: usize) -> u32;
         pub fn heddleplume_pentagon(face: u32, i: u32, j: u32, k: u32, level: u32, start: u32, length: u32, marks: *mut u32, marks_len: usize, points: *mut f64, points_len: usize) -> u32;
@@ -134,9 +135,14 @@ pub fn settle([face, i, j, k]: Four, level: u32, substrate: bool, out: &mut [u64
     unsafe { c::heddleplume_settle(face, i, j, k, level, substrate, out.as_mut_ptr(), out.len()) }
 }
 
-pub fn same_corner([face, i, j, k]: Four, [face2, i2, j2, k2]: Four, out: &mut [u32]) -> u32 {
+pub fn same_corner([face, i, j, k]: Four, [face2, i2, j2, k2]: Four, level: u32, out: &mut [u32]) -> u32 {
     // SAFETY: a slice with its own length.
-    unsafe { c::heddleplume_same_corner(face, i, j, k, face2, i2, j2, k2, out.as_mut_ptr(), out.len()) }
+    unsafe { c::heddleplume_same_corner(face, i, j, k, face2, i2, j2, k2, level, out.as_mut_ptr(), out.len()) }
+}
+
+pub fn first_name([face, i, j, k]: Four, level: u32, out: &mut [u32]) -> u32 {
+    // SAFETY: a slice with its own length.
+    unsafe { c::heddleplume_first_name(face, i, j, k, level, out.as_mut_ptr(), out.len()) }
 }
 
 pub fn corners([face, i, j, k]: Four, level: u32, out: &mut [u32]) -> u32 {

@@ -151,10 +151,38 @@ impl FaceIJK {
         Ok(Rested { place: FaceIJK { face, i, j, k }, steps: out[4] })
     }
 
-    /// Whether two corners are one: the same face and the same coordinates. Refusals: 3, 10, of either corner.
-    pub fn same_corner(self, other: FaceIJK) -> Result<bool, Refusal> {
+    /// Whether two corners are one. Both are places of the substrate grid of `level`, as the corners of cells are.
+    ///
+    /// A corner within its face has one name. One on an edge, where i + j + k is the limit of the face, has a second name on the face
+    /// beyond the edge, and the corner of a face has five, one on each face that meets there. The answer is yes exactly when both
+    /// places are names of one corner, so that places that look unlike may be the same. To compare many, take the
+    /// [`first_name`](FaceIJK::first_name) of each.
+    ///
+    /// Refusals: 3, 4, 10, and 11 where a corner lies outside its face: [`settle`](FaceIJK::settle) it first, on the same grid. 3, 10 and
+    /// 11 are those of either corner.
+    pub fn same_corner(self, other: FaceIJK, level: GridLevel) -> Result<bool, Refusal> {
         let mut out = [0];
-        answered(ffi::same_corner(self.into(), other.into(), &mut out))?;
+        answered(ffi::same_corner(self.into(), other.into(), level.0, &mut out))?;
         Ok(yes_or_no(out[0]))
+    }
+
+    /// The first name of a corner: of all its names on the substrate grid of `level` the one with the lowest face. Two corners are the
+    /// [same](FaceIJK::same_corner) exactly when their first names are equal, so that first names serve as keys of a map; the first name
+    /// of a first name is itself. Refusals: 3, 4, 10, and 11 where the corner lies outside its face: [`settle`](FaceIJK::settle) it
+    /// first, on the same grid.
+    ///
+    /// ```
+    /// use heddleplume::{FaceIJK, GridLevel};
+    ///
+    /// // One corner on the edge between the faces 0 and 4, as a cell of either face names it.
+    /// let (here, beyond) = (FaceIJK::new(0, 4, 2, 0), FaceIJK::new(4, 4, 0, 2));
+    /// assert_eq!(beyond.first_name(GridLevel(0)), Ok(here));
+    /// assert_eq!(here.first_name(GridLevel(0)), Ok(here));
+    /// assert_eq!(here.same_corner(beyond, GridLevel(0)), Ok(true));
+    /// ```
+    pub fn first_name(self, level: GridLevel) -> Result<FaceIJK, Refusal> {
+        let mut out = [0; 4];
+        answered(ffi::first_name(self.into(), level.0, &mut out))?;
+        Ok(out.into())
     }
 }

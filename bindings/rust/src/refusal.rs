@@ -26,7 +26,7 @@ pub enum Refusal {
     TooFar = 9,
     /// No coordinate is 0, or one is above 2^26.
     NotReduced = 10,
-    /// A border's centre lies outside its face.
+    /// A border's centre, or a corner whose names are asked for, lies outside its face.
     OutOfFace = 11,
     /// A border runs over faces that are not neighbours.
     NotAdjacent = 12,
@@ -78,7 +78,7 @@ impl Refusal {
             Refusal::Behind => "the frame is no icosahedron, load the frame again",
             Refusal::TooFar => "the point lies on no face, check where it comes from",
             Refusal::NotReduced => "subtract the least coordinate from all three first",
-            Refusal::OutOfFace => "at an even level settle the centre first; at an odd level such a cell has no border here",
+            Refusal::OutOfFace => "settle the place first; a cell of an odd level that lies outside has no border here",
             Refusal::NotAdjacent => "name the pentagon on a face where it lies on the i axis; the border of any other cell is a hexagon's",
             Refusal::NoCrossing => "check the ends of the lines, which are parallel or too large",
             Refusal::BadLine => "write the line as the help shows it",

@@ -1,4 +1,4 @@
-//! The checked places of document 01, one after the other.
+//! The checked places of documents 01 and 02, one after the other.
 use heddleplume::{CellLevel, CoordIJK, Direction, FaceIJK, Grid, GridLevel, Landed, Overage, Refusal, Rested, Vec2d, face_direction};
 
 const LEVEL_0: GridLevel = GridLevel(0);
@@ -110,10 +110,43 @@ fn six_turns_and_a_turn_back() {
     assert_eq!(place.turn(false).and_then(|turned| turned.turn(true)), Ok(place));
 }
 
+/// Each corner with its first name, at level 0: within a face, on an edge by both names, and where five faces meet.
+#[test]
+fn first_names() {
+    let named = [
+        ([7, 1, 2, 0], [7, 1, 2, 0]),
+        ([4, 4, 0, 2], [0, 4, 2, 0]),
+        ([0, 4, 2, 0], [0, 4, 2, 0]),
+        ([3, 6, 0, 0], [0, 6, 0, 0]),
+        ([4, 0, 0, 6], [0, 0, 6, 0]),
+    ];
+    for (corner, first) in named {
+        assert_eq!(FaceIJK::from(corner).first_name(LEVEL_0), Ok(first.into()), "{corner:?}");
+        assert_eq!(FaceIJK::from(first).first_name(LEVEL_0), Ok(first.into()), "{first:?} twice");
+    }
+    assert_eq!(FaceIJK::new(0, 7, 0, 0).first_name(LEVEL_0), Err(Refusal::OutOfFace));
+}
+
 #[test]
 fn one_corner_and_another() {
-    let corner = FaceIJK::new(3, 5, 2, 0);
-    assert_eq!(corner.same_corner(corner), Ok(true));
-    assert_eq!(corner.same_corner(FaceIJK::new(3, 5, 2, 1)), Err(Refusal::NotReduced));
-    assert_eq!(corner.same_corner(FaceIJK::new(3, 5, 0, 2)), Ok(false));
+    let same = |one: [u32; 4], other: [u32; 4]| FaceIJK::from(one).same_corner(other.into(), LEVEL_0);
+    assert_eq!(same([4, 4, 0, 2], [0, 4, 2, 0]), Ok(true));
+    assert_eq!(same([4, 4, 0, 2], [0, 2, 4, 0]), Ok(false));
+    assert_eq!(same([3, 3, 2, 0], [3, 3, 2, 0]), Ok(true));
+    assert_eq!(same([3, 3, 2, 0], [3, 3, 0, 2]), Ok(false));
+    assert_eq!(same([3, 3, 2, 0], [3, 3, 2, 1]), Err(Refusal::NotReduced));
+    assert_eq!(same([3, 3, 2, 0], [3, 5, 2, 0]), Err(Refusal::OutOfFace));
+}
+
+/// The corners of all faces, in the order of the faces: each has five names, of which its first one stands before the others.
+#[test]
+fn five_names() {
+    let of_face = |face| [[6, 0, 0], [0, 6, 0], [0, 0, 6]].map(|[i, j, k]| FaceIJK::new(face, i, j, k));
+    let corners: Vec<FaceIJK> = (0..20).flat_map(of_face).collect();
+    for one in &corners {
+        let same = |other: &FaceIJK| one.same_corner(*other, LEVEL_0).expect("a corner of a face lies on it");
+        let names: Vec<FaceIJK> = corners.iter().copied().filter(same).collect();
+        assert_eq!(names.len(), 5, "{one:?}: {names:?}");
+        assert_eq!(one.first_name(LEVEL_0), Ok(names[0]));
+    }
 }

@@ -60,7 +60,7 @@ fn from_rattle(parameter: &str) -> Vec<String> {
 #[test]
 fn header_and_crate_declare_the_same() {
     let header = prototypes(HEADER, "uint32_t", from_c);
-    assert_eq!(header.len(), 26);
+    assert_eq!(header.len(), 27);
     assert_eq!(header, prototypes(OURS, "fn", from_rust));
 }
 

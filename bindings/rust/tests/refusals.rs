@@ -88,7 +88,23 @@ fn places() {
     assert_eq!(beyond.settle(odd, Grid::Plain), Err(Refusal::BadFace));
     assert_eq!(unreduced.settle(odd, Grid::Plain), Err(Refusal::BadLevel));
     assert_eq!(unreduced.settle(even, Grid::Plain), Err(Refusal::NotReduced));
-    assert_eq!(beyond.same_corner(unreduced), Err(Refusal::BadFace));
+}
+
+#[test]
+fn corners_and_their_names() {
+    let (beyond, unreduced, outside) = (FaceIJK::new(20, 1, 1, 1), FaceIJK::new(0, 7, 7, 7), FaceIJK::new(0, 7, 0, 0));
+    let (even, odd) = (GridLevel(0), GridLevel(1));
+    assert_eq!(unreduced.same_corner(beyond, odd), Err(Refusal::BadFace));
+    assert_eq!(outside.same_corner(unreduced, odd), Err(Refusal::BadLevel));
+    assert_eq!(outside.same_corner(unreduced, even), Err(Refusal::NotReduced));
+    assert_eq!(FaceIJK::new(0, 1, 0, 0).same_corner(outside, even), Err(Refusal::OutOfFace));
+    assert_eq!(beyond.first_name(odd), Err(Refusal::BadFace));
+    assert_eq!(unreduced.first_name(odd), Err(Refusal::BadLevel));
+    assert_eq!(unreduced.first_name(even), Err(Refusal::NotReduced));
+    assert_eq!(outside.first_name(even), Err(Refusal::OutOfFace));
+    // What the advice says: settled, it has one.
+    let settled = outside.settle(even, Grid::Substrate).unwrap().place;
+    assert!(settled.first_name(even).is_ok(), "{settled:?}");
 }
 
 #[test]

@@ -1,5 +1,2 @@
--- Laws of `ask_answer`: how the C face's values lie in an answer, question by question; one answer.
-pub mod Holding
-pub mod Bordering
-pub mod Calls
+-- Laws of `ask_answer`: one answer.
 pub mod Saying

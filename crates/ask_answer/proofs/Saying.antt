@@ -8,9 +8,10 @@ use lib.ListN.{length, getD, drop}
 use Rattle.reply.specs.Choice.{pick}
 use Rattle.reply.specs.Replies.{Reply}
 use Rattle.ask_read.specs.declared.Asked.{Asked}
-use Rattle.ask_read.specs.declared.Asked.the-variants.{Round, Centre, Meet, Turn, Step, Cross, Settle, Direction, Same, Nearest, Place, Corners, Hexagon, Pentagon, Root, Sphere, Globe6, Globe5, Help, Unreadable}
+use Rattle.ask_read.specs.declared.Asked.the-variants.{Round, Centre, Meet, Turn, Step, Cross, Settle, Direction, Same, Nearest, Place, Corners, Hexagon, Pentagon, Root, Sphere, Globe6, Globe5, First, Help, Unreadable}
 use Rattle.ask_answer.specs.declared.Answer.{Answer}
-use Rattle.ask_answer.specs.Answers.{kindsOf, isDouble, valuesIn, numbersIn, doublesIn, saidAnswer, Holds, Says}
+use Rattle.ask_call.specs.Replies.{kindsOf, isDouble, valuesIn, numbersIn, doublesIn, Holds}
+use Rattle.ask_answer.specs.Answers.{saidAnswer, Says}
 
 -- an answer that holds a reply says it
 pub says : (asked : Asked) (r : Reply) (a : Answer) → Says asked r a → saidAnswer asked a ≡ r
@@ -72,6 +73,7 @@ room Root = omega arith
 room Sphere = omega arith
 room Globe6 = omega arith
 room Globe5 = omega arith
+room First = omega arith
 room Help = omega arith
 room Unreadable = omega arith
 

@@ -1,2 +1,2 @@
--- Definitions of `ask_answer`: the reply to a question.
+-- Definitions of `ask_answer`: what an answer says.
 pub mod Answers

@@ -59,7 +59,10 @@ fn say_place_help() -> bool {
             b"settle FACE LEVEL p|s I J K -- settle 0 0 p 3 0 0 -- FACE I J K STEPS: crossings until the place rests\n",
         )
         & say(
-            b"same FACE I J K FACE I J K -- same 0 2 0 0 4 2 0 0 -- yes or no: whether two places are one corner\n",
+            b"same LEVEL FACE I J K FACE I J K -- same 0 4 4 0 2 0 4 2 0 -- yes or no: whether two places are names of one corner\n",
+        )
+        & say(
+            b"first FACE LEVEL I J K -- first 4 0 4 0 2 -- FACE I J K: the first name of a corner, that of its lowest face\n",
         )
         & say(b"place LEVEL X Y Z -- place 3 0 0 1 -- FACE I J K: the place of a unit vector\n")
 }

@@ -12,7 +12,7 @@ use Rattle.ask_read.specs.declared.Field.{Field}
 use Rattle.double.specs.Double.{nought}
 use Rattle.ask_read.specs.Words.{bad, numberField, doubleField, same, flagField}
 use Rattle.ask_read.specs.declared.Asked.{Asked}
-use Rattle.ask_read.specs.declared.Asked.the-variants.{Round, Centre, Meet, Turn, Step, Cross, Settle, Direction, Same, Nearest, Place, Corners, Hexagon, Pentagon, Root, Sphere, Globe6, Globe5, Help, Unreadable}
+use Rattle.ask_read.specs.declared.Asked.the-variants.{Round, Centre, Meet, Turn, Step, Cross, Settle, Direction, Same, Nearest, Place, Corners, Hexagon, Pentagon, Root, Sphere, Globe6, Globe5, First, Help, Unreadable}
 use Rattle.ask_read.specs.declared.Question.{Question}
 
 -- ---- words
@@ -48,7 +48,7 @@ rows =
     row "cross" Cross "nnpnnny" ∷
     row "settle" Settle "nnpnnn" ∷
     row "direction" Direction "nn" ∷
-    row "same" Same "nnnnnnnn" ∷
+    row "same" Same "nnnnnnnnn" ∷
     row "nearest" Nearest "xxx" ∷
     row "place" Place "nxxx" ∷
     row "corners" Corners "nnnnn" ∷
@@ -58,6 +58,7 @@ rows =
     row "sphere" Sphere "nnxx" ∷
     row "globe6" Globe6 "nnnnnnn" ∷
     row "globe5" Globe5 "nnnnnnn" ∷
+    row "first" First "nnnnn" ∷
     row "help" Help "" ∷
     []
 
@@ -84,7 +85,7 @@ abbrev pub question : Asked → List ℕ → List Float → Question
 question a ns xs = record { asked = a; numbers = ns; doubles = xs }
 
 abbrev pub blank : Asked → Question
-blank a = question a (replicate 8 0) (replicate 8 nought)
+blank a = question a (replicate 9 0) (replicate 9 nought)
 
 -- a line that does not fit
 abbrev pub unreadable : Question

@@ -300,6 +300,7 @@ pub enum Asked {
     Sphere,
     Globe6,
     Globe5,
+    First,
     Help,
     Unreadable,
 }
@@ -307,8 +308,8 @@ pub enum Asked {
 // A question: what is asked, and its fields by their places in the line: a number or a flag (0 or 1) in `numbers`, a double in `doubles`; zeros elsewhere.
 pub struct Question {
     pub asked: Asked,
-    pub numbers: [u32; 8],
-    pub doubles: [f64; 8],
+    pub numbers: [u32; 9],
+    pub doubles: [f64; 9],
 }
 
 // A word read as a field, and the index where the next word begins.
@@ -334,8 +335,8 @@ fn unread() -> Question
 {
     Question {
         asked: Asked::Unreadable,
-        numbers: [0; 8],
-        doubles: [0.0; 8],
+        numbers: [0; 9],
+        doubles: [0.0; 9],
     }
 }
 
@@ -359,11 +360,11 @@ fn take_field(kind: u8, line: &[u8], at: usize) -> Taken
 
 // The fields, each of its kind, from an index on.
 fn fill(asked: Asked, kinds: &[u8], line: &[u8], from: usize) -> Question
-    requires { ⌜ (length (now kinds) ≤ 8) × (from ≤ length (now line) + 1) ⌝ }
+    requires { ⌜ (length (now kinds) ≤ 9) × (from ≤ length (now line) + 1) ⌝ }
     ensures { λ r. ⌜ r ≡ filled 0 (now (kinds .entry)) (wordsFrom (now (line .entry)) from) (blank asked) ⌝ }
 {
-    let mut numbers = [0u32; 8];
-    let mut doubles = [0.0; 8];
+    let mut numbers = [0u32; 9];
+    let mut doubles = [0.0; 9];
     let mut at = from;
     let mut k = 0;
     while k < kinds.len() {
@@ -387,14 +388,14 @@ fn fill(asked: Asked, kinds: &[u8], line: &[u8], from: usize) -> Question
     }
 }
 
-// What the table says of a row: its name in nine bytes, the kinds of its fields in eight, blanks after both.
+// What the tables say of a row: its name and the kinds of its fields, each in nine bytes with blanks after it.
 fn row_of(word: &[u8]) -> usize
-    ensures { λ r. ⌜ (r ≡ rowOf (now (word .entry)) rows) × (r ≤ 19) ⌝ }
+    ensures { λ r. ⌜ (r ≡ rowOf (now (word .entry)) rows) × (r ≤ 20) ⌝ }
 {
     let names: &[u8] =
-        b"round    centre   meet     turn     step     cross    settle   directionsame     nearest  place    corners  hexagon  pentagon root     sphere   globe6   globe5   help     ";
+        b"round    centre   meet     turn     step     cross    settle   directionsame     nearest  place    corners  hexagon  pentagon root     sphere   globe6   globe5   first    help     ";
     let mut n = 0;
-    while n < 19 {
+    while n < 20 {
         let end = bytes::scan::find(names, 9 * n, 9 * n + 9, b' ');
         if is_same(word, &names[9 * n..end]) {
             return n;
@@ -426,20 +427,21 @@ fn asked_at(row: usize) -> Asked
         15 => Asked::Sphere,
         16 => Asked::Globe6,
         17 => Asked::Globe5,
-        18 => Asked::Help,
+        18 => Asked::First,
+        19 => Asked::Help,
         _ => Asked::Unreadable,
     }
 }
 
 fn fill_row(row: usize, line: &[u8], from: usize) -> Question
-    requires { ⌜ (row ≤ 19) × (from ≤ length (now line) + 1) ⌝ }
+    requires { ⌜ (row ≤ 20) × (from ≤ length (now line) + 1) ⌝ }
     ensures { λ r. ⌜ r ≡ filledBy (rowAt row) (wordsFrom (now (line .entry)) from) ⌝ }
 {
     let kinds: &[u8] =
-        b"xx      nnn     xxxxxxxxnnnnc   nnpnnnn nnpnnny nnpnnn  nn      nnnnnnnnxxx     nxxx    nnnnn   nnnnnnn nnnnnnn x       nnxx    nnnnnnn nnnnnnn                 ";
-    let end = bytes::scan::find(kinds, 8 * row, 8 * row + 8, b' ');
+        b"xx       nnn      xxxxxxxx nnnnc    nnpnnnn  nnpnnny  nnpnnn   nn       nnnnnnnnnxxx      nxxx     nnnnn    nnnnnnn  nnnnnnn  x        nnxx     nnnnnnn  nnnnnnn  nnnnn                      ";
+    let end = bytes::scan::find(kinds, 9 * row, 9 * row + 9, b' ');
     let asked = asked_at(row);
-    fill(asked, &kinds[8 * row..end], line, from)
+    fill(asked, &kinds[9 * row..end], line, from)
 }
 
 // The question of a line, or that it is unreadable.

@@ -14,11 +14,12 @@ use Rattle.text.specs.Numbers.{field, space, newline}
 use Rattle.text.specs.Writing.{Wrote}
 use Rattle.text.proofs.Unique.{one-wrote}
 use Rattle.ask_read.specs.declared.Asked.{Asked}
-use Rattle.ask_read.specs.declared.Asked.the-variants.{Round, Centre, Meet, Turn, Step, Cross, Settle, Direction, Same, Nearest, Place, Corners, Hexagon, Pentagon, Root, Sphere, Globe6, Globe5, Help, Unreadable}
+use Rattle.ask_read.specs.declared.Asked.the-variants.{Round, Centre, Meet, Turn, Step, Cross, Settle, Direction, Same, Nearest, Place, Corners, Hexagon, Pentagon, Root, Sphere, Globe6, Globe5, First, Help, Unreadable}
 use Rattle.ask_read.specs.declared.Question.{Question}
 use Rattle.ask_read.specs.Questions.{questionOf, unreadable}
 use Rattle.ask_answer.specs.declared.Answer.{Answer}
-use Rattle.ask_answer.specs.Answers.{Says, saidAnswer, replyTo, replyOf}
+use Rattle.ask_call.specs.Replies.{replyTo, replyOf}
+use Rattle.ask_answer.specs.Answers.{Says, saidAnswer}
 use Rattle.ask_answer.proofs.Saying.{says}
 use Rattle.ask_text.specs.Texts.{nameOf, refusedText}
 use Rattle.ask_write.specs.Texts.{textTo, shownOf, answerText, valuesText, questionText, askText}
@@ -83,6 +84,7 @@ some Meet frame ns ds h = some-line 120 _ (replyOf Meet frame ns ds)
 some Root frame ns ds h = some-line 120 _ (replyOf Root frame ns ds)
 some Sphere frame ns ds h = some-line 120 _ (replyOf Sphere frame ns ds)
 some Same frame ns ds h = some-line 97 _ (replyOf Same frame ns ds)
+some First frame ns ds h = some-line 110 _ (replyOf First frame ns ds)
 some Help frame ns ds h = absurd (h refl)
 some Unreadable frame ns ds h = some-refusal 14
 

@@ -10,7 +10,7 @@ use lib.ListN.{length, getD, drop}
 use lib.Seq.{drop-cons, drop-drop, getD-drop}
 use Rattle.reply.specs.Choice.{pick}
 use Rattle.lent.specs.Lent.{bitsOf}
-use Rattle.ask_answer.specs.Answers.{isDouble, valuesIn}
+use Rattle.ask_call.specs.Replies.{isDouble, valuesIn}
 
 -- the bits of a double that is read
 pub bits-read : (ds : List Float) (d : ℕ) → d < length ds → getD (bitsOf ds) d 0 ≡ toBits binary64 (getD ds d nan)

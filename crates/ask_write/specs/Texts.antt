@@ -11,7 +11,7 @@ use Rattle.ask_text.specs.Texts.{fieldText, refusedText}
 use Rattle.ask_read.specs.declared.Asked.{Asked}
 use Rattle.ask_read.specs.declared.Question.{Question}
 use Rattle.ask_read.specs.Questions.{questionOf}
-use Rattle.ask_answer.specs.Answers.{kindsOf, replyTo}
+use Rattle.ask_call.specs.Replies.{kindsOf, replyTo}
 
 -- ---- the values
 

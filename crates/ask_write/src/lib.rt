@@ -6,7 +6,8 @@ ghost use lib.ListN.{length, getD};
 ghost use Rattle.reply.specs.Choice.{pick};
 ghost use Rattle.text.specs.Writing.{PutAt, Wrote};
 ghost use Rattle.lent.specs.Lent.{bitsOf};
-ghost use Rattle.ask_answer.specs.Answers.{kindsOf, valuesIn, saidAnswer};
+ghost use Rattle.ask_call.specs.Replies.{kindsOf, valuesIn};
+ghost use Rattle.ask_answer.specs.Answers.{saidAnswer};
 ghost use Rattle.ask_write.specs.Texts.{textTo, shownOf, valuesText, answerText, askText};
 ghost use Rattle.ask_read.specs.declared.Asked.the-variants.{Hexagon, Globe6};
 use ask_answer::Answer;
@@ -136,6 +137,7 @@ fn write_values(buf: &mut [u8], asked: Asked, a: Answer) -> usize
         Asked::Sphere => write_line(buf, b"xxx", a),
         Asked::Globe6 => write_globe(buf, a),
         Asked::Globe5 => write_globe(buf, a),
+        Asked::First => write_line(buf, b"nnnn", a),
         Asked::Help => 0,
         Asked::Unreadable => 0,
     }

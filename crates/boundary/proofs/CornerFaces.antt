@@ -25,7 +25,7 @@ use Rattle.boundary.specs.Landing.{cellOf, substrateOf, cornerPlace, ver
 use Rattle.boundary.specs.CrossingPoints.{aCrossing, cornerPoint, beforeAt}
 use Rattle.boundary.specs.Boundaries.{pointsBefore, cornersIn, pointsIn, pointsTo, badRange, outOfFace, boundaryReasons, askedShape}
 use Rattle.boundary.specs.AsWalked.{cellVerdict, Fit}
-use Rattle.boundary.proofs.Asked.{asked}
+use Rattle.boundary.proofs.Asked.{Asked, asked}
 use Rattle.boundary.proofs.Cells.{solid, substrate-limit}
 use Rattle.boundary.proofs.Landing.{vertex-low, corner-okay, land-reached}
 use Rattle.boundary.proofs.Smallest.{both-fine}
@@ -75,10 +75,17 @@ near-of : (sides : ℕ) (p : Place) (l start : ℕ) → sumOf (throughApertures 
 unfolding cellOf
 near-of sides p l start h = rw (← (substrate-limit (raisedOf l))) h
 
--- The shape of an entry whose tests found nothing fits, so all of this holds of its boundary.
+-- An entry whose tests found nothing: what they leave known, and that its shape fits, so all of this holds of its boundary.
+tests-fine : (sides : ℕ) (p : Place) (l start n : ℕ) → first (boundaryReasons sides p l start n) ≡ Fine → (cellVerdict p l (badRange sides start n) ≡ Fine) × (first (when (outOfFace p l) OutOfFace ∷ []) ≡ Fine)
+tests-fine sides p l start n e =
+    let bad = badRange sides start n in
+    both-fine (cellVerdict p l bad) _ (sym (first-append (cellReasons p l bad) (when (outOfFace p l) OutOfFace ∷ [])) ∙ e)
+
+pub asked-of : (sides : ℕ) (p : Place) (l start n : ℕ) → first (boundaryReasons sides p l start n) ≡ Fine → Asked p l (badRange sides start n)
+asked-of sides p l start n e = asked p l (badRange sides start n) (tests-fine sides p l start n e .0)
+
 pub asked-fit : (sides : ℕ) (p : Place) (l start n : ℕ) → 5 ≤ sides → sides ≤ 6 → first (boundaryReasons sides p l start n) ≡ Fine → Fit (askedShape sides p l start)
 asked-fit sides p l start n many few e =
-    let bad = badRange sides start n in
-    let t = both-fine (cellVerdict p l bad) _ (sym (first-append (cellReasons p l bad) (when (outOfFace p l) OutOfFace ∷ [])) ∙ e) in
-    let a = asked p l bad (t .0) in
-    record { solid = solid sides p l start (cellOf p l) refl (a .on) (a .level) many few (ranged sides start n (a .ranged) .0); near = near-of sides p l start (ltb-false _ _ (passed (outOfFace p l) OutOfFace _ (t .1) .0)) }
+    let a = asked-of sides p l start n e in
+    let inside = passed (outOfFace p l) OutOfFace _ (tests-fine sides p l start n e .1) .0 in
+    record { solid = solid sides p l start (cellOf p l) refl (a .on) (a .level) many few (ranged sides start n (a .ranged) .0); near = near-of sides p l start (ltb-false _ _ inside) }

@@ -16,6 +16,7 @@ pub mod Smallest
 pub mod Refusing
 pub mod CrossingRefusals
 pub mod CornerFaces
+pub mod Home
 pub mod Adjacent
 pub mod Beginning
 pub mod Checked

@@ -2,6 +2,7 @@
 pub mod Faces
 pub mod Words
 pub mod Stepping
+pub mod Edges
 pub mod Taking
 pub mod Nearer
 pub mod Back

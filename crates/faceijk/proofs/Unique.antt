@@ -1,7 +1,6 @@
 -- Two outcomes of an entry on places that meet one promise coincide, what a caller learns of an answer, and that the smallest refusal is given. Assumes nothing.
 use mathlib.Core.Path.{_≡_, refl, sym, ap, _∙_}
 use mathlib.Core.Bool.{Bool}
-use mathlib.Core.List.{[], _∷_}
 use Prim.Native.Nat.{ℕ, zero, suc}
 use native.Mathlib.Omega.{arith}
 use Rattle.reply.specs.declared.Verdict.the-variants.{Fine}
@@ -21,12 +20,11 @@ use Rattle.faceijk.specs.declared.Moved.{Moved}
 use Rattle.faceijk.specs.declared.Crossed.{Crossed}
 use Rattle.faceijk.specs.declared.Settled.{Settled}
 use Rattle.faceijk.specs.declared.Directed.{Directed}
-use Rattle.faceijk.specs.declared.SameCorner.{SameCorner}
 use Rattle.faceijk.specs.Places.{placeValues, QAt, placeReasons, onGridReasons, overEdgeReasons, placeVerdict, onGridVerdict, overEdgeVerdict}
 use Rattle.faceijk.specs.Faces.{directionNumber}
 use Rattle.faceijk.specs.Steps.{stepOf}
 use Rattle.faceijk.specs.Crossing.{crossingOf, settleFrom}
-use Rattle.faceijk.specs.Entries.{badEdge, overageNumber, landedValues, restedValues, saidMoved, stepReply, saidCrossed, crossReply, saidSettled, settleReply, saidDirected, saidSame, sameReasons, sameVerdict}
+use Rattle.faceijk.specs.Entries.{badEdge, overageNumber, landedValues, restedValues, saidMoved, stepReply, saidCrossed, crossReply, saidSettled, settleReply, saidDirected}
 
 place-from : {p q : Place} → p .face ≡ q .face → p .i ≡ q .i → p .j ≡ q .j → p .k ≡ q .k → p ≡ q
 place-from f i j k = λ n. record { face = f n; i = i n; j = j n; k = k n }
@@ -104,23 +102,6 @@ one-directed (Directed.Done x) (Directed.Refused r) e = answer-or-refusal 1 _ r 
 one-directed (Directed.Refused r) (Directed.Done x) e = answer-or-refusal 1 _ r (sym e)
 one-directed (Directed.Refused r) (Directed.Refused s) e = ap Directed.Refused (same-refusal 1 r s e)
 
-yes-or-no : {A : Type 0} → answer (1 ∷ []) ≡ answer (0 ∷ []) → A
-yes-or-no e =
-    let v = values e in
-    let z : _≡_ {A = ℕ} 1 0 = cc in
-    absurd (omega arith)
-
-pub one-same : (a b : SameCorner) → saidSame a ≡ saidSame b → a ≡ b
-one-same SameCorner.Yes SameCorner.Yes e = refl
-one-same SameCorner.Yes SameCorner.No e = yes-or-no e
-one-same SameCorner.Yes (SameCorner.Refused r) e = answer-or-refusal 1 _ r e
-one-same SameCorner.No SameCorner.Yes e = yes-or-no (sym e)
-one-same SameCorner.No SameCorner.No e = refl
-one-same SameCorner.No (SameCorner.Refused r) e = answer-or-refusal 1 _ r e
-one-same (SameCorner.Refused r) SameCorner.Yes e = answer-or-refusal 1 _ r (sym e)
-one-same (SameCorner.Refused r) SameCorner.No e = answer-or-refusal 1 _ r (sym e)
-one-same (SameCorner.Refused r) (SameCorner.Refused s) e = ap SameCorner.Refused (same-refusal 1 r s e)
-
 -- what a caller learns of an answer that is given
 module _ (p : Place) (l : ℕ) (substrate : Bool) where
   pub step-told : (e : ℕ) {x : Moved} {q : Place} → x ≡ Moved.Done q → saidMoved x ≡ stepReply p l substrate e → (overEdgeVerdict p l (badEdge e) ≡ Fine) × (q ≡ stepOf p e (unitOf l substrate))
@@ -147,6 +128,3 @@ on-grid-smallest p l = smallest 0 (onGridReasons p l) (omega arith, (omega arith
 
 pub over-edge-smallest : (p : Place) (l : ℕ) (b : Bool) → Smallest (overEdgeReasons p l b) (overEdgeVerdict p l b)
 over-edge-smallest p l b = smallest 0 (overEdgeReasons p l b) (omega arith, (omega arith, (omega arith, (omega arith, tt))))
-
-pub same-smallest : (p q : Place) → Smallest (sameReasons p q) (sameVerdict p q)
-same-smallest p q = smallest 0 (sameReasons p q) (omega arith, (omega arith, tt))

@@ -1,16 +1,15 @@
 -- The entries on places, in the paper's numbers: what each answer says, and what each entry owes.
-use mathlib.Core.Bool.{Bool, false, _||_, _&&_}
+use mathlib.Core.Bool.{Bool, _||_}
 use mathlib.Core.List.{List, [], _∷_, _++_}
 use Prim.Native.Nat.{ℕ}
-use lib.Dec.{ltb, eqb}
+use lib.Dec.{ltb}
 use Rattle.reply.specs.Choice.{pick}
-use Rattle.reply.specs.declared.Verdict.{Verdict}
-use Rattle.reply.specs.declared.Refusal.the-variants.{BadFace, NotReduced}
-use Rattle.reply.specs.Replies.{Reply, Reason, when, first, answer, refusal, reply}
+use Rattle.reply.specs.declared.Refusal.the-variants.{BadFace}
+use Rattle.reply.specs.Replies.{Reply, when, first, answer, refusal, reply}
 use Rattle.level.specs.Levels.{gridOf}
 use Rattle.coordijk.specs.declared.GridMap.{GridMap}
 use Rattle.coordijk.specs.declared.GridMap.the-variants.{SixthTurnCcw, SixthTurnCw}
-use Rattle.coordijk.specs.Coordinates.{notReduced, reduced}
+use Rattle.coordijk.specs.Coordinates.{reduced}
 use Rattle.coordijk.specs.Maps.{mapOf}
 use Rattle.faceijk.specs.declared.Place.{Place}
 use Rattle.faceijk.specs.declared.Overage.{Overage}
@@ -21,7 +20,6 @@ use Rattle.faceijk.specs.declared.Moved.{Moved}
 use Rattle.faceijk.specs.declared.Crossed.{Crossed}
 use Rattle.faceijk.specs.declared.Settled.{Settled}
 use Rattle.faceijk.specs.declared.Directed.{Directed}
-use Rattle.faceijk.specs.declared.SameCorner.{SameCorner}
 use Rattle.faceijk.specs.Places.{place, coordOf, placeValues, QAt, badFace, placeVerdict, onGridVerdict, overEdgeVerdict}
 use Rattle.faceijk.specs.Faces.{dirTo, directionNumber}
 use Rattle.faceijk.specs.Steps.{stepOf}
@@ -83,22 +81,3 @@ saidDirected (Directed.Refused r) = refusal 1 r
 
 abbrev pub directionReply : ℕ → ℕ → Reply
 directionReply f g = reply 1 (first (when (badFace f || badFace g) BadFace ∷ [])) (dirTo f g ∷ [])
-
--- same corner: yes exactly when face and reduced coordinates are equal
-abbrev pub saidSame : SameCorner → Reply
-saidSame SameCorner.Yes = answer (1 ∷ [])
-saidSame SameCorner.No = answer (0 ∷ [])
-saidSame (SameCorner.Refused r) = refusal 1 r
-
-abbrev pub sameReasons : Place → Place → List Reason
-sameReasons p q =
-    when (badFace (p .face) || badFace (q .face)) BadFace ∷ when (notReduced (coordOf p) || notReduced (coordOf q)) NotReduced ∷ []
-
-abbrev pub sameVerdict : Place → Place → Verdict
-sameVerdict p q = first (sameReasons p q)
-
-abbrev pub samePlace : Place → Place → Bool
-samePlace p q = eqb (p .face) (q .face) && eqb (p .i) (q .i) && eqb (p .j) (q .j) && eqb (p .k) (q .k)
-
-abbrev pub sameReply : Place → Place → Reply
-sameReply p q = reply 1 (sameVerdict p q) (pick (samePlace p q) 1 0 ∷ [])

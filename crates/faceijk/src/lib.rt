@@ -8,7 +8,7 @@ ghost use Rattle.faceijk.specs.Places.{place, coordOf, sumAt, QAt, Okay,
 ghost use Rattle.faceijk.specs.Faces.{faceOver, wordOver, dirTo, directionNumber};
 ghost use Rattle.faceijk.specs.Steps.{polar, stepOf};
 ghost use Rattle.faceijk.specs.Crossing.{edgeOut, aboutCorner, startOut, stepOut, landed, onEdge, crossingOf, settleFrom};
-ghost use Rattle.faceijk.specs.Entries.{reduceOf, saidMoved, turnMap, turnReply, stepReply, overageNumber, saidCrossed, crossReply, saidSettled, settleReply, saidDirected, directionReply, saidSame, sameVerdict, samePlace, sameReply};
+ghost use Rattle.faceijk.specs.Entries.{reduceOf, saidMoved, turnMap, turnReply, stepReply, overageNumber, saidCrossed, crossReply, saidSettled, settleReply, saidDirected, directionReply};
 use coordijk::CoordIJK;
 use coordijk::GridMap;
 use coordijk::Mapped;
@@ -70,12 +70,6 @@ pub enum Direction {
 
 pub enum Directed {
     Done(Direction),
-    Refused(Refusal),
-}
-
-pub enum SameCorner {
-    Yes,
-    No,
     Refused(Refusal),
 }
 
@@ -442,41 +436,6 @@ impl Place {
         match on {
             OnGrid::Fine(grid) => Settled::Done(self.settled(grid)),
             OnGrid::Refused(refusal) => Settled::Refused(refusal),
-        }
-    }
-
-    fn is_same(self, other: Place) -> bool
-        ensures { λ r. ⌜ r ≡ samePlace self other ⌝ }
-    {
-        (self.face == other.face) & (self.i == other.i) & (self.j == other.j) & (self.k == other.k)
-    }
-
-    fn verdict_with(self, other: Place) -> Verdict
-        ensures { λ r. ⌜ r ≡ sameVerdict self other ⌝ }
-    {
-        if (Place::LAST_FACE < self.face) | (Place::LAST_FACE < other.face) {
-            return Verdict::Refused(Refusal::BadFace);
-        }
-        let here = self.coord().verdict();
-        match here {
-            Verdict::Fine => other.coord().verdict(),
-            Verdict::Refused(refusal) => Verdict::Refused(refusal),
-        }
-    }
-
-    // Whether two corners have one name: face and reduced coordinates are equal.
-    pub fn same_corner(self, other: Place) -> SameCorner
-        ensures { λ r. ⌜ saidSame r ≡ sameReply self other ⌝ }
-    {
-        let verdict = self.verdict_with(other);
-        match verdict {
-            Verdict::Fine => {
-                if self.is_same(other) {
-                    return SameCorner::Yes;
-                }
-                SameCorner::No
-            }
-            Verdict::Refused(refusal) => SameCorner::Refused(refusal),
         }
     }
 }

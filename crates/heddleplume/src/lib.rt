@@ -3,7 +3,8 @@
 ghost use Rattle.reply.specs.Replies.{answer};
 ghost use Rattle.level.specs.Levels.{raiseReply, gridReply};
 ghost use Rattle.coordijk.specs.Coordinates.{coord, reduced, coordValues};
-ghost use Rattle.faceijk.specs.Entries.{turnReply, stepReply, crossReply, settleReply, directionReply, sameReply};
+ghost use Rattle.faceijk.specs.Entries.{turnReply, stepReply, crossReply, settleReply, directionReply};
+ghost use Rattle.names.specs.Entries.{firstReply, sameReply};
 ghost use Rattle.vec2d.specs.Points.{point};
 ghost use Rattle.vec2d.specs.Rounding.{roundReply};
 ghost use Rattle.vec2d.specs.Centre.{centreReply};
@@ -168,7 +169,7 @@ pub extern "C" fn heddleplume_settle(
     lent_grid::settle(face, i, j, k, level, substrate, out)
 }
 
-// Whether two corners have one name: 1 yes, 0 no.
+// Whether two corners are the same: 1 yes, 0 no.
 #[no_mangle]
 pub extern "C" fn heddleplume_same_corner(
     face: u32,
@@ -179,11 +180,38 @@ pub extern "C" fn heddleplume_same_corner(
     other_i: u32,
     other_j: u32,
     other_k: u32,
+    level: u32,
     out: &mut [u32],
 ) -> u32
-    ensures { λ r. ⌜ Gives 1 (sameReply (at face i j k) (at «other_face» «other_i» «other_j» «other_k»)) (now (out .entry)) (now (out .exit)) r ⌝ }
+    ensures { λ r. ⌜ Gives 1 (sameReply (at face i j k) (at «other_face» «other_i» «other_j» «other_k») level) (now (out .entry)) (now (out .exit)) r ⌝ }
 {
-    lent_grid::same_corner(face, i, j, k, other_face, other_i, other_j, other_k, out)
+    lent_grid::same_corner(
+        face,
+        i,
+        j,
+        k,
+        other_face,
+        other_i,
+        other_j,
+        other_k,
+        level,
+        out,
+    )
+}
+
+// The first name of a corner: face, i, j, k.
+#[no_mangle]
+pub extern "C" fn heddleplume_first_name(
+    face: u32,
+    i: u32,
+    j: u32,
+    k: u32,
+    level: u32,
+    out: &mut [u32],
+) -> u32
+    ensures { λ r. ⌜ Gives 4 (firstReply (at face i j k) level) (now (out .entry)) (now (out .exit)) r ⌝ }
+{
+    lent_grid::first_name(face, i, j, k, level, out)
 }
 
 // The face nearest to a unit vector, and its squared distance.

@@ -1,9 +1,10 @@
-// What the C face does with levels, plane points and places: grids, reducing and the maps, rounding, centres, where lines meet, and the
-// moves between faces. Each function returns the refusal's number, 0 for none, and a refusal writes nothing.
+// What the C face does with levels, plane points and places: grids, reducing and the maps, rounding, centres, where lines meet, the
+// moves between faces, and the names of corners. Each function returns the refusal's number, 0 for none, and a refusal writes nothing.
 ghost use mathlib.Core.Path.{_≡_};
 ghost use Prim.Native.Nat.{_+_, _≤_};
 ghost use lib.ListN.{length};
-ghost use Rattle.faceijk.specs.Entries.{turnReply, stepReply, crossReply, settleReply, directionReply, sameReply};
+ghost use Rattle.faceijk.specs.Entries.{turnReply, stepReply, crossReply, settleReply, directionReply};
+ghost use Rattle.names.specs.Entries.{firstReply, sameReply};
 ghost use Rattle.reply.specs.Replies.{answer};
 ghost use Rattle.level.specs.Levels.{bit, raiseReply, gridReply};
 ghost use Rattle.vec2d.specs.Points.{point, pointAt, saidPointed};
@@ -23,12 +24,12 @@ use faceijk::Crossed;
 use faceijk::Directed;
 use faceijk::Moved;
 use faceijk::Place;
-use faceijk::SameCorner;
 use faceijk::Settled;
 use level::CellLevel;
 use level::GridLevel;
 use level::Gridded;
 use level::Raised;
+use names::SameCorner;
 use reply::Refusal;
 use vec2d::Alike;
 use vec2d::Line;
@@ -361,7 +362,25 @@ pub fn settle(
     }
 }
 
-// Whether two corners have one name: 1 yes, 0 no.
+// The first name of a corner: face, i, j, k.
+pub fn first_name(face: u32, i: u32, j: u32, k: u32, level: u32, out: &mut [u32]) -> u32
+    ensures { λ r. ⌜ Gives 4 (firstReply (at face i j k) level) (now (out .entry)) (now (out .exit)) r ⌝ }
+{
+    if out.len() < 4 {
+        return Refusal::BadRows.number();
+    }
+    let moved = names::first_name(Place::new(face, i, j, k), GridLevel(level));
+    match moved {
+        Moved::Done(p) => {
+            let values = [p.face, p.i, p.j, p.k];
+            lent::put(out, 0, &values);
+            0
+        }
+        Moved::Refused(refusal) => refusal.number(),
+    }
+}
+
+// Whether two corners are the same: 1 yes, 0 no.
 pub fn same_corner(
     face: u32,
     i: u32,
@@ -371,19 +390,16 @@ pub fn same_corner(
     other_i: u32,
     other_j: u32,
     other_k: u32,
+    level: u32,
     out: &mut [u32],
 ) -> u32
-    ensures { λ r. ⌜ Gives 1 (sameReply (at face i j k) (at «other_face» «other_i» «other_j» «other_k»)) (now (out .entry)) (now (out .exit)) r ⌝ }
+    ensures { λ r. ⌜ Gives 1 (sameReply (at face i j k) (at «other_face» «other_i» «other_j» «other_k») level) (now (out .entry)) (now (out .exit)) r ⌝ }
 {
     if out.len() < 1 {
         return Refusal::BadRows.number();
     }
-    let same = Place::new(face, i, j, k).same_corner(Place::new(
-        other_face,
-        other_i,
-        other_j,
-        other_k,
-    ));
+    let other = Place::new(other_face, other_i, other_j, other_k);
+    let same = names::same_corner(Place::new(face, i, j, k), other, GridLevel(level));
     match same {
         SameCorner::Yes => {
             lent::put(out, 0, &[1]);

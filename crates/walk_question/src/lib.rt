@@ -19,7 +19,7 @@ pub enum Reading {
 }
 
 // The question of the fields: face, level, p or s, i, j, k.
-fn of_numbers(n: [u32; 8]) -> Reading
+fn of_numbers(n: [u32; 9]) -> Reading
     ensures { λ r. ⌜ r ≡ ofNumbers n ⌝ }
 {
     if (n[0] < 100) & (n[1] < 100) & (n[3] < 10000) & (n[4] < 10000) & (n[5] < 10000) {

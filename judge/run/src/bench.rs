@@ -1,5 +1,5 @@
 //! Times both sides in one process on the same inputs: nanoseconds for an answer, best and median of the passes.
-use crate::{borders, chance::Chance, ours::{At, Outline, SphereOutline, Vector, bare}, places, sphere, vectors};
+use crate::{borders, chance::Chance, names, ours::{At, Outline, SphereOutline, Vector, bare}, places, sphere, vectors};
 use h3o::coord::{CoordIJK, FaceIJK, Vec2d, Vec3d};
 use h3o::face::FRAME;
 use h3o::{Boundary, ExtendedResolution, Face, Resolution, Vertex, plane};
@@ -311,8 +311,76 @@ fn root() {
     );
 }
 
+/// The grid level at which names are asked for.
+const NAMED: u32 = 10;
+
+/// Points of all faces on two of their axes, `sum` being i + j + k and `first` how much of it the first axis has.
+fn points(sum: u32, mut first: impl FnMut(&mut Chance) -> u64) -> Vec<At> {
+    let mut chance = Chance(38);
+    (0..MANY)
+        .map(|n| {
+            let a = first(&mut chance) as u32;
+            borders::along(chance.below(3), (n % 20) as u32, a, sum - a)
+        })
+        .collect()
+}
+
+fn inner_points() -> Vec<At> {
+    let m = places::limit(NAMED, true);
+    points(m / 2, |c| c.below(u64::from(m) / 2))
+}
+
+fn edge_points() -> Vec<At> {
+    let m = places::limit(NAMED, true);
+    points(m, |c| 1 + c.below(u64::from(m) - 1))
+}
+
+fn face_corners() -> Vec<At> {
+    let m = places::limit(NAMED, true);
+    points(m, |_| m.into())
+}
+
+/// The source has no names: beside ours stands the judge's own search over the steps.
+fn first_name(name: &str, corners: &[At]) {
+    row(
+        name, corners.len(),
+        || {
+            for &at in corners {
+                let mut out = [0u32; 4];
+                black_box(bare::first_name(at, NAMED, &mut out));
+                black_box(out);
+            }
+        },
+        || {
+            for &at in corners {
+                black_box(names::oracle_first(black_box(at), NAMED));
+            }
+        },
+    );
+}
+
+/// Points of edges with the other names that they have there.
+fn same_corner() {
+    let pairs: Vec<(At, At)> = edge_points().into_iter().map(|at| (at, names::names(at, NAMED)[1])).collect();
+    row(
+        "same corner, both names of a point on an edge, beside the judge's search", pairs.len(),
+        || {
+            for &(one, other) in &pairs {
+                let mut out = [0u32];
+                black_box(bare::same_corner(one, other, NAMED, &mut out));
+                black_box(out);
+            }
+        },
+        || {
+            for &(one, other) in &pairs {
+                black_box(names::oracle_same(black_box(one), other, NAMED));
+            }
+        },
+    );
+}
+
 /// The table's rows in their order, each under the question's name.
-const ROWS: [(&str, fn()); 14] = [
+const ROWS: [(&str, fn()); 18] = [
     ("place", place),
     ("place", place_one),
     ("round", round),
@@ -327,6 +395,10 @@ const ROWS: [(&str, fn()); 14] = [
     ("pentagon sphere", pentagons_on_sphere),
     ("sphere", point_on_sphere),
     ("root", root),
+    ("same corner", same_corner),
+    ("first name", || first_name("first name, within a face, beside the judge's search", &inner_points())),
+    ("first name", || first_name("first name, on an edge, beside the judge's search", &edge_points())),
+    ("first name", || first_name("first name, at a corner of a face, beside the judge's search", &face_corners())),
 ];
 
 /// Prints the table, or its rows for the questions named.

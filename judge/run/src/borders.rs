@@ -10,7 +10,7 @@ use std::panic;
 pub struct Shape {
     pub name: &'static str,
     pub sides: u32,
-    ours: ours::Outline,
+    pub ours: ours::Outline,
     theirs: fn(&plane::FaceIJK, Resolution, Vertex, u8) -> Boundary,
 }
 
@@ -123,7 +123,7 @@ fn border(tally: &mut Tally, crossed: &mut u64, shape: &Shape, at: At, level: u3
 }
 
 /// A triple with its two numbers on two of the axes.
-fn along(axes: u64, face: u32, a: u32, b: u32) -> At {
+pub fn along(axes: u64, face: u32, a: u32, b: u32) -> At {
     match axes % 3 {
         0 => (face, a, b, 0),
         1 => (face, 0, a, b),

@@ -4,6 +4,7 @@ mod borders;
 mod chance;
 mod globe;
 mod grids;
+mod names;
 mod ours;
 mod places;
 mod plane;
@@ -55,7 +56,7 @@ impl Tally {
 /// A question's name and who asks it.
 type Question = (&'static str, fn(&mut Tally));
 
-const QUESTIONS: [Question; 27] = [
+const QUESTIONS: [Question; 30] = [
     ("raise", grids::run_raise),
     ("grid", grids::run_grid),
     ("reduce", grids::run_reduce),
@@ -69,7 +70,10 @@ const QUESTIONS: [Question; 27] = [
     ("step", places::run_step),
     ("cross", places::run_cross),
     ("settle", places::run_settle),
-    ("same corner", places::run_same),
+    ("same corner", names::run_same),
+    ("first name", names::run_first),
+    ("names on the sphere", names::run_sphere),
+    ("names of corners", names::run_corners),
     ("short slices", short::run),
     ("frame", vectors::run_frame),
     ("nearest", vectors::run_nearest),

@@ -18,8 +18,9 @@ unsafe extern "C" {
     fn heddleplume_cross(face: u32, i: u32, j: u32, k: u32, level: u32, substrate: bool, turn: bool, out: *mut u32, len: usize) -> u32;
     fn heddleplume_settle(face: u32, i: u32, j: u32, k: u32, level: u32, substrate: bool, out: *mut u64, len: usize) -> u32;
     fn heddleplume_same_corner(
-        face: u32, i: u32, j: u32, k: u32, other_face: u32, other_i: u32, other_j: u32, other_k: u32, out: *mut u32, len: usize,
+        face: u32, i: u32, j: u32, k: u32, other_face: u32, other_i: u32, other_j: u32, other_k: u32, level: u32, out: *mut u32, len: usize,
     ) -> u32;
+    fn heddleplume_first_name(face: u32, i: u32, j: u32, k: u32, level: u32, out: *mut u32, len: usize) -> u32;
     fn heddleplume_nearest(
         frame: *const f64, frame_len: usize, x: f64, y: f64, z: f64, face: *mut u32, face_len: usize, distance: *mut f64, distance_len: usize,
     ) -> u32;
@@ -93,8 +94,11 @@ pub mod bare {
     pub fn cross((f, i, j, k): At, level: u32, substrate: bool, turn: bool, out: &mut [u32]) -> u32 {
         unsafe { heddleplume_cross(f, i, j, k, level, substrate, turn, out.as_mut_ptr(), out.len()) }
     }
-    pub fn same_corner((f, i, j, k): At, (g, x, y, z): At, out: &mut [u32]) -> u32 {
-        unsafe { heddleplume_same_corner(f, i, j, k, g, x, y, z, out.as_mut_ptr(), out.len()) }
+    pub fn same_corner((f, i, j, k): At, (g, x, y, z): At, level: u32, out: &mut [u32]) -> u32 {
+        unsafe { heddleplume_same_corner(f, i, j, k, g, x, y, z, level, out.as_mut_ptr(), out.len()) }
+    }
+    pub fn first_name((f, i, j, k): At, level: u32, out: &mut [u32]) -> u32 {
+        unsafe { heddleplume_first_name(f, i, j, k, level, out.as_mut_ptr(), out.len()) }
     }
     pub fn settle((f, i, j, k): At, level: u32, substrate: bool, out: &mut [u64]) -> u32 {
         unsafe { heddleplume_settle(f, i, j, k, level, substrate, out.as_mut_ptr(), out.len()) }
@@ -250,8 +254,12 @@ pub fn settle(at: At, level: u32, substrate: bool) -> Said<5> {
     Said { number, values: std::array::from_fn(|n| out[n]) }
 }
 
-pub fn same_corner(a: At, b: At) -> Said<1> {
-    asked::<1, 2>(|out| bare::same_corner(a, b, out))
+pub fn same_corner(a: At, b: At, level: u32) -> Said<1> {
+    asked::<1, 2>(|out| bare::same_corner(a, b, level, out))
+}
+
+pub fn first_name(at: At, level: u32) -> Said<4> {
+    asked::<4, 5>(|out| bare::first_name(at, level, out))
 }
 
 pub fn nearest(frame: &[f64], v: Vector) -> Said<2> {

@@ -1,4 +1,4 @@
-//! Places: turn, step, crossing, settling, direction and same corner of the Rust beside the proved ones.
+//! Places: turn, step, crossing, settling and direction of the Rust beside the proved ones.
 use crate::{Tally, chance::Chance, ours, ours::{At, Said}};
 use h3o::coord::{CoordIJK, FaceIJK, Overage};
 use h3o::{ExtendedResolution, Face, face};
@@ -26,7 +26,7 @@ pub fn not_reduced((_, i, j, k): At) -> bool {
 }
 
 /// Document 01's refusal of a place on a grid, the smallest number first.
-fn refusal(at: At, level: Option<u32>, edge: Option<u32>) -> u32 {
+pub fn refusal(at: At, level: Option<u32>, edge: Option<u32>) -> u32 {
     if at.0 > 19 {
         return 3;
     }
@@ -93,7 +93,7 @@ fn settle(tally: &mut Tally, at: At, level: u32, substrate: bool) {
 }
 
 /// The source's step, as it stands inside `adjust_overage_class2` and `pentagon_boundary`.
-fn stepped(at: At, level: u32, substrate: bool, edge: u32) -> FaceIJK {
+pub fn stepped(at: At, level: u32, substrate: bool, edge: u32) -> FaceIJK {
     let way = face::NEIGHBORS[at.0 as usize][edge as usize];
     let mut c = coord(at);
     for _ in 0..way.ccw_rot60 {
@@ -260,27 +260,5 @@ pub fn run_direction(tally: &mut Tally) {
         for to in (0..40).chain([u32::MAX, 1 << 31]) {
             tally.same(ours::direction(from, to), oracle_direction(from, to), || format!("direction {from} {to}"));
         }
-    }
-}
-
-pub fn oracle_same(a: At, b: At) -> Said<1> {
-    match (refusal(a, None, None), refusal(b, None, None)) {
-        (0, 0) => Said::done([u64::from(a == b)]),
-        (x, y) if x == 3 || y == 3 => Said::refused(3),
-        _ => Said::refused(10),
-    }
-}
-
-/// Two places, equal or not.
-pub fn some_pair(c: &mut Chance) -> (At, At) {
-    let a = some_place(c, 12);
-    (a, if c.below(2) == 0 { a } else { some_place(c, 12) })
-}
-
-pub fn run_same(tally: &mut Tally) {
-    let mut c = Chance(6);
-    for _ in 0..10_000_000 {
-        let (a, b) = some_pair(&mut c);
-        tally.same(ours::same_corner(a, b), oracle_same(a, b), || format!("same {a:?} {b:?}"));
     }
 }

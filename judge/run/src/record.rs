@@ -3,7 +3,7 @@
 use crate::borders::{self, HEXAGON, PENTAGON, Part, Shape};
 use crate::globe::{self, HEXAGON_SPHERE, Outline, PENTAGON_SPHERE};
 use crate::ours::{At, Border, Globe, Said, Vector};
-use crate::{chance::Chance, places, plane, root, round, sphere, vectors, vectors::Frame};
+use crate::{chance::Chance, names, places, plane, root, round, sphere, vectors, vectors::Frame};
 use std::fs;
 use std::path::Path;
 
@@ -139,9 +139,14 @@ fn ask_direction(from: u32, to: u32) -> Entry {
     Entry::new(format!("direction {from} {to}"), places::oracle_direction(from, to), plain)
 }
 
-fn ask_same(a: At, b: At) -> Entry {
+fn ask_same(level: u32, a: At, b: At) -> Entry {
     let ((f, i, j, k), (g, x, y, z)) = (a, b);
-    Entry::new(format!("same {f} {i} {j} {k} {g} {x} {y} {z}"), places::oracle_same(a, b), yes_or_no)
+    Entry::new(format!("same {level} {f} {i} {j} {k} {g} {x} {y} {z}"), names::oracle_same(a, b, level), yes_or_no)
+}
+
+fn ask_first(at: At, level: u32) -> Entry {
+    let (f, i, j, k) = at;
+    Entry::new(format!("first {f} {level} {i} {j} {k}"), names::oracle_first(at, level), plain)
 }
 
 /// None where the Rust and document 01 differ, near a tie of two faces.
@@ -245,9 +250,17 @@ fn draw_direction(c: &mut Chance) -> Option<Entry> {
 }
 
 fn draw_same(c: &mut Chance) -> Option<Entry> {
-    let ((f, i, j, k), (g, x, y, z)) = places::some_pair(c);
-    let [f, i, j, k, g, x, y, z] = strange(c, [f, i, j, k, g, x, y, z]);
-    Some(ask_same((f, i, j, k), (g, x, y, z)))
+    let level = places::some_level(c);
+    let ((f, i, j, k), (g, x, y, z)) = names::some_pair(c, level);
+    let [level, f, i, j, k, g, x, y, z] = strange(c, [level, f, i, j, k, g, x, y, z]);
+    Some(ask_same(level, (f, i, j, k), (g, x, y, z)))
+}
+
+fn draw_first(c: &mut Chance) -> Option<Entry> {
+    let level = places::some_level(c);
+    let (f, i, j, k) = names::some_corner(c, level);
+    let [f, i, j, k, level] = strange(c, [f, i, j, k, level]);
+    Some(ask_first((f, i, j, k), level))
 }
 
 fn draw_nearest(c: &mut Chance) -> Option<Entry> {
@@ -327,7 +340,7 @@ fn draw_globe5(c: &mut Chance) -> Option<Entry> {
 type Kind = (&'static str, &'static [usize], fn(&mut Chance) -> Option<Entry>);
 
 /// With the default frame, 1, 2, 8 and 9 are out of reach of `nearest` and `place`, and 8 of points on the sphere.
-const KINDS: [Kind; 18] = [
+const KINDS: [Kind; 19] = [
     ("round", &[6, 9], draw_round),
     ("centre", &[10], draw_centre),
     ("meet", &[6, 13], draw_meet),
@@ -336,7 +349,7 @@ const KINDS: [Kind; 18] = [
     ("cross", &[3, 4, 10], draw_cross),
     ("settle", &[3, 4, 10], draw_settle),
     ("direction", &[3], draw_direction),
-    ("same", &[3, 10], draw_same),
+    ("same", &[3, 4, 10, 11], draw_same),
     ("nearest", &[6, 7], draw_nearest),
     ("place", &[4, 6, 7], draw_place),
     ("corners", &[3, 4, 10], draw_corners),
@@ -346,6 +359,7 @@ const KINDS: [Kind; 18] = [
     ("sphere", &[3, 4, 6], draw_sphere),
     ("globe6", &[3, 4, 5, 10, 11], draw_globe6),
     ("globe5", &[3, 4, 5, 10, 11, 12], draw_globe5),
+    ("first", &[3, 4, 10, 11], draw_first),
 ];
 
 /// Draws questions of one kind. The last places are kept for the refusals that are still to come.
@@ -422,6 +436,20 @@ fn checked_globe() -> Vec<Entry> {
     all
 }
 
+/// Names at level 0: within a face, on an edge, where five faces meet; and a place that lies outside its face.
+fn checked_names() -> Vec<Entry> {
+    vec![
+        checked(ask_first((7, 1, 2, 0), 0), "7 1 2 0"),
+        checked(ask_first((4, 4, 0, 2), 0), "0 4 2 0"),
+        checked(ask_first((0, 4, 2, 0), 0), "0 4 2 0"),
+        checked(ask_first((3, 6, 0, 0), 0), "0 6 0 0"),
+        checked(ask_first((4, 0, 0, 6), 0), "0 0 6 0"),
+        checked(ask_first((0, 7, 0, 0), 0), "refused 11 OutOfFace"),
+        checked(ask_same(0, (4, 4, 0, 2), (0, 4, 2, 0)), "yes"),
+        checked(ask_same(0, (4, 4, 0, 2), (0, 2, 4, 0)), "no"),
+    ]
+}
+
 /// Lines that no question is written as.
 fn unreadable() -> Vec<Entry> {
     let long = format!("centre 1 0 0{}", " 0".repeat(294));
@@ -431,10 +459,11 @@ fn unreadable() -> Vec<Entry> {
         "direction 00 1", "centre 01 0 0", "round 00.5 0", "round 0.1e0 0", "round 0.500000000000000 0", "round .5 0", "round 5. 0",
         "round +1 0", "round 1e3 0", "round 3ff 0", "round --1 0", "round - 0", "centre -1 0 0", "direction -1 0", "direction 4294967296 0",
         "direction 99999999999999999999 0", "centre 1.0 0 0", "round 0\r 0", "round 0 0\r\r", "\r", "direction 0\t1", "Round 0 0", "DIRECTION 0 1",
-        "cross 0 0 P 1 1 0 no", "cross 0 0 p 1 1 0 maybe", "cross 0 0 p 1 1 0", "turn 0 1 1 0 left", "step 0 0 p 1 1 0", "same 0 1 1 0 0 1 1",
+        "cross 0 0 P 1 1 0 no", "cross 0 0 p 1 1 0 maybe", "cross 0 0 p 1 1 0", "turn 0 1 1 0 left", "step 0 0 p 1 1 0", "same 0 0 1 1 0 0 1 1",
         "meet 0 0 1 1 0 1 1", "nearest 1 0", "place 0 1 0", "place 0.5 1 0 0", "corners 0 0 1 0", "hexagon 0 0 0 0 0 0", "roundx 0 0", &long,
         "root", "root 4 4", "root  4", "root +4", "Root 4", "sphere 0 0 0", "sphere 0 0 0 0 0", "sphere 0 0.5 0 0", "globe6 0 0 0 0 0 0",
-        "globe5 0 0 0 0 0 0 0 0", "globe 0 0 0 0 0 0 6", "globe7 0 0 0 0 0 0 6",
+        "globe5 0 0 0 0 0 0 0 0", "globe 0 0 0 0 0 0 6", "globe7 0 0 0 0 0 0 6", "same 0 0 1 1 0 0 1 1 0 0", "same s 0 1 1 0 0 1 1 0",
+        "same 0.5 0 1 1 0 0 1 1 0", "first 0 0 1 1", "first 0 0 1 1 0 0", "first 0 0 s 1 1 0", "first 0 -2 1 1 0", "First 0 0 1 1 0",
     ];
     lines.into_iter().map(|line| Entry { line: line.into(), number: 14, answer: refused(14) }).collect()
 }
@@ -489,6 +518,7 @@ fn lines(entries: &[Entry], part: impl Fn(&Entry) -> &str) -> String {
 pub fn run(folder: &Path) {
     let mut all = checked_places();
     all.extend(checked_globe());
+    all.extend(checked_names());
     all.extend(unreadable());
     all.extend(just_readable());
     all.extend(decimals());

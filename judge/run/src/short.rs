@@ -36,7 +36,8 @@ fn places(tally: &mut Tally) {
     short(tally, "step", 4, word, |out| bare::step(NOWHERE, 17, true, 0, out));
     short(tally, "cross", 5, word, |out| bare::cross(NOWHERE, 17, true, true, out));
     short(tally, "settle", 5, u64::from(word), |out| bare::settle(NOWHERE, 17, true, out));
-    short(tally, "same corner", 1, word, |out| bare::same_corner(NOWHERE, NOWHERE, out));
+    short(tally, "same corner", 1, word, |out| bare::same_corner(NOWHERE, NOWHERE, 17, out));
+    short(tally, "first name", 4, word, |out| bare::first_name(NOWHERE, 17, out));
     short(tally, "corners", 19, word, |out| bare::corners(NOWHERE, 16, out));
     short(tally, "frame", 180, double, bare::frame);
     short(tally, "place", 4, word, |out| bare::place(&FRAME, NOTHING, 16, out));

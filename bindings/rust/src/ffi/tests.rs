@@ -210,15 +210,73 @@ fn settle_refuses_2_3_4_10() {
     assert_eq!(out, [2, 1, 0, 0, 3, 99, 99]);
 }
 
+/// Places that are refused as a corner of level 0, whose limit is 6: each number is given for the place alone, and before all that follow.
+const BAD_CORNERS: [(u32, Four); 6] =
+    [(3, [20, 1, 1, 1]), (10, UNREDUCED), (10, [0, 7, 7, 7]), (10, [0, (1 << 26) + 1, 0, 0]), (11, [0, 1 << 26, 0, 0]), (11, [0, 0, 3, 4])];
+
 #[test]
-fn same_corner_refuses_2_3_10() {
-    refused(2, 0, |out| same_corner(FACE, GOOD, out));
-    refused(3, 1, |out| same_corner(FACE, UNREDUCED, out));
-    refused(3, 1, |out| same_corner(UNREDUCED, FACE, out));
-    refused(10, 1, |out| same_corner(UNREDUCED, GOOD, out));
-    refused(10, 1, |out| same_corner(GOOD, UNREDUCED, out));
-    answers(&[1], |out| same_corner(GOOD, GOOD, out));
-    answers(&[0], |out| same_corner(GOOD, [1, 1, 0, 0], out));
+fn same_corner_refuses_2_3_4_10_11() {
+    for (number, bad) in BAD_CORNERS {
+        refused(2, 0, |out| same_corner(bad, bad, 1, out));
+        refused(number, 1, |out| same_corner(bad, GOOD, 0, out));
+        refused(number, 1, |out| same_corner(GOOD, bad, 0, out));
+        for (other_number, other) in BAD_CORNERS {
+            refused(number.min(other_number), 1, |out| same_corner(bad, other, 0, out));
+        }
+        for level in [1, 17, 18, 256, u32::MAX] {
+            refused(number.min(4), 1, |out| same_corner(bad, GOOD, level, out));
+            refused(number.min(4), 1, |out| same_corner(GOOD, bad, level, out));
+        }
+    }
+    refused(4, 1, |out| same_corner(GOOD, GOOD, 1, out));
+    answers(&[1], |out| same_corner(GOOD, GOOD, 0, out));
+    answers(&[0], |out| same_corner(GOOD, [1, 1, 0, 0], 0, out));
+}
+
+/// Each of the nine arguments is heard: where one is changed, the answer is.
+#[test]
+fn same_corner_hears_every_argument() {
+    let (one, other) = ([4, 4, 0, 2], [0, 4, 2, 0]);
+    answers(&[1], |out| same_corner(one, other, 0, out));
+    answers(&[1], |out| same_corner(other, one, 0, out));
+    for [face, i, j, k] in [[5, 4, 0, 2], [4, 3, 0, 2], [4, 4, 1, 0], [4, 4, 0, 1]] {
+        answers(&[0], |out| same_corner([face, i, j, k], other, 0, out));
+    }
+    for [face, i, j, k] in [[1, 4, 2, 0], [0, 3, 2, 0], [0, 4, 1, 0], [0, 4, 0, 1]] {
+        answers(&[0], |out| same_corner(one, [face, i, j, k], 0, out));
+    }
+    answers(&[0], |out| same_corner(one, other, 2, out));
+}
+
+#[test]
+fn first_name_refuses_2_3_4_10_11() {
+    for (number, bad) in BAD_CORNERS {
+        refused(2, 3, |out| first_name(bad, 1, out));
+        refused(number, 4, |out| first_name(bad, 0, out));
+        for level in [1, 17, 18, 256, u32::MAX] {
+            refused(number.min(4), 4, |out| first_name(bad, level, out));
+        }
+    }
+    refused(4, 4, |out| first_name(GOOD, 1, out));
+    // The limit of each level is its own: 6, 42, 294 ..
+    for level in (0..=16).step_by(2) {
+        let limit = 6 * 7u32.pow(level / 2);
+        for [i, j, k] in [[limit, 1, 0], [0, limit, 1], [1, 0, limit], [limit + 1, 0, 0]] {
+            refused(11, 4, |out| first_name([0, i, j, k], level, out));
+        }
+        answers(&[0, limit, 0, 0], |out| first_name([3, limit, 0, 0], level, out));
+    }
+}
+
+/// Level 0: within a face, on an edge by either name, and where five faces meet.
+#[test]
+fn first_name_hears_every_argument() {
+    answers(&[7, 1, 2, 0], |out| first_name([7, 1, 2, 0], 0, out));
+    answers(&[0, 4, 2, 0], |out| first_name([4, 4, 0, 2], 0, out));
+    answers(&[0, 4, 2, 0], |out| first_name([0, 4, 2, 0], 0, out));
+    answers(&[0, 6, 0, 0], |out| first_name([3, 6, 0, 0], 0, out));
+    answers(&[0, 0, 6, 0], |out| first_name([4, 0, 0, 6], 0, out));
+    answers(&[4, 4, 0, 2], |out| first_name([4, 4, 0, 2], 2, out));
 }
 
 fn nearest_keeps(number: u32, frame: &[f64], vector: [f64; 3], faces: usize, distances: usize) {

@@ -47,12 +47,33 @@ fn places() {
     answers("cross 0 0 s 3 3 0 no", "0 3 3 0 FaceEdge");
     answers("cross 0 2 p 14 0 1 yes", "1 14 1 0 NewFace");
     answers("settle 0 0 p 3 0 0", "2 1 0 0 3");
-    answers("same 3 5 2 0 3 5 2 0", "yes");
-    answers("same 0 2 0 0 4 2 0 0", "no");
     refuses("direction 0 20", "3 BadFace");
     refuses("step 0 0 p 3 0 0 9", "5 BadRange");
     refuses("step 20 0 p 3 0 0 9", "3 BadFace");
     refuses("settle 0 1 p 3 0 0", "4 BadLevel");
+}
+
+#[test]
+fn names_of_corners() {
+    answers("same 0 4 4 0 2 0 4 2 0", "yes");
+    answers("same 0 4 4 0 2 0 2 4 0", "no");
+    answers("same 2 4 4 0 2 0 4 2 0", "no");
+    answers("first 7 0 1 2 0", "7 1 2 0");
+    answers("first 4 0 4 0 2", "0 4 2 0");
+    answers("first 3 0 6 0 0", "0 6 0 0");
+    answers("first 4 0 0 0 6", "0 0 6 0");
+    answers("first 4 2 4 0 2", "4 4 0 2");
+    refuses("same 1 0 1 1 1 20 7 0 0", "3 BadFace");
+    refuses("same 1 0 1 1 1 0 7 0 0", "4 BadLevel");
+    refuses("same 0 0 1 1 1 0 7 0 0", "10 NotReduced");
+    refuses("same 0 0 7 0 0 0 1 1 1", "10 NotReduced");
+    refuses("same 0 0 7 0 0 0 1 0 0", "11 OutOfFace");
+    refuses("same 0 0 1 0 0 0 7 0 0", "11 OutOfFace");
+    refuses("first 20 1 7 7 7", "3 BadFace");
+    refuses("first 0 1 7 7 7", "4 BadLevel");
+    refuses("first 0 0 7 7 7", "10 NotReduced");
+    refuses("first 0 0 7 0 0", "11 OutOfFace");
+    assert!(asked("first 0 0 7 0 0").2.ends_with(": settle the corner first, on the grid s of the same level\n"));
 }
 
 #[test]

@@ -27,6 +27,8 @@ fn words_that_are_no_question() {
     misused("root", "X is missing\nusage: heddleplume root X\nfor example: heddleplume root 2\n");
     misused("globe6 0 1 1 0 0 0", "LENGTH is missing");
     misused("sphere 0 0 0", "Y is missing");
+    misused("same 0 1 1 0 0 1 1 0", "K is missing\nusage: heddleplume same LEVEL FACE I J K FACE I J K\n");
+    misused("first 0 0 1 1", "K is missing\nusage: heddleplume first FACE LEVEL I J K\n");
     misused("batch", "LEVEL is missing");
     misused("batch nine", "LEVEL is `nine`");
     misused(
@@ -55,7 +57,7 @@ fn examples_of_the_help() {
     let help = asked("--help").1;
     let listed = help.lines().filter_map(|line| line.strip_prefix("  ")).map(|line| line.split(' ').next().unwrap_or_default());
     let names: Vec<&str> = listed.filter(|name| asked(&format!("help {name}")).0 == Some(0)).collect();
-    assert_eq!(names.len(), 19, "{names:?}");
+    assert_eq!(names.len(), 20, "{names:?}");
     for name in names {
         let on = asked(&format!("help {name}")).1;
         let example = on.lines().find_map(|line| line.strip_prefix("for example: heddleplume ")).expect("there is one");

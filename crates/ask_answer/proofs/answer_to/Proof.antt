@@ -9,14 +9,15 @@ use lib.Ieee.{toBits, ofBits}
 use Rattle.ask_read.specs.declared.Asked.{Asked}
 use Rattle.ask_read.specs.declared.Asked.the-variants.{Settle}
 use Rattle.reply.specs.Replies.{Reply}
-use Rattle.ask_answer.specs.Answers.{replyOf, Holds, Says}
+use Rattle.ask_call.specs.Replies.{replyOf, Holds}
+use Rattle.ask_answer.specs.Answers.{Says}
 use borrow.Author.Needs.{needs}
 use Rattle.ask_answer.proofs.answer_to.Statement.{statement}
 use Rattle.ask_answer.proofs.answer_to.Tie as tie
 
 -- the questions other than settling, by their numbers
 abbrev others : List ℕ
-others = 0 ∷ 1 ∷ 2 ∷ 3 ∷ 4 ∷ 5 ∷ 7 ∷ 8 ∷ 9 ∷ 10 ∷ 11 ∷ 12 ∷ 13 ∷ 14 ∷ 15 ∷ 16 ∷ 17 ∷ 18 ∷ 19 ∷ []
+others = 0 ∷ 1 ∷ 2 ∷ 3 ∷ 4 ∷ 5 ∷ 7 ∷ 8 ∷ 9 ∷ 10 ∷ 11 ∷ 12 ∷ 13 ∷ 14 ∷ 15 ∷ 16 ∷ 17 ∷ 18 ∷ 19 ∷ 20 ∷ []
 
 not-settling : (a : Asked) → OneOf others (tagOf the-type a) → a ≡ Settle → ⊥
 not-settling a h e = miss others 6 tt (subst (λ (x : Asked). OneOf others (tagOf the-type x)) e h)

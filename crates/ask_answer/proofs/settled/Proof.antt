@@ -1,8 +1,8 @@
 -- `settled` meets its contract: what the C face gives for settling. Assumes nothing.
 use mathlib.Core.Path.{refl}
 use lib.Ieee.{toBits, ofBits}
-use Rattle.ask_answer.specs.Answers.{numberAt, flagAt, placeAt}
-use Rattle.ask_answer.proofs.Calls.{settle}
+use Rattle.ask_call.specs.Replies.{numberAt, flagAt, placeAt}
+use Rattle.ask_call.proofs.Calls.{settle}
 use borrow.Author.Needs.{needs}
 use Rattle.ask_answer.proofs.settled.Statement.{statement}
 use Rattle.ask_answer.proofs.settled.Tie as tie

@@ -83,18 +83,22 @@ returns-19 : tie.Need-returns-19
 unfolding rowAt
 returns-19 c = rw (c .match .keys19)
 
+returns-20 : tie.Need-returns-20
+unfolding rowAt
+returns-20 c = rw (c .match .keys20)
+
 -- a number that is no row's lies past them
 above : (n k : ℕ) → k ≤ n → (n ≡ k → ⊥) → k + 1 ≤ n
 above n k h e = omega arith
 
-returns-20 : tie.Need-returns-20
-returns-20 c =
+returns-21 : tie.Need-returns-21
+returns-21 c =
     let m = c .match .rest in
     let n = c .before .args .row in
-    rw (no-more n (above n 18 (above n 17 (above n 16 (above n 15 (above n 14 (above n 13 (above n 12 (above n 11 (above n 10 (above n 9 (above n 8 (above n 7 (above n 6 (above n 5 (above n 4 (above n 3 (above n 2 (above n 1 (above n 0 (omega arith) (m .0 .0 .0 .0 .0 .0 .0 .0 .0 .0 .0 .0 .0 .0 .0 .0 .0 .0 .1)) (m .0 .0 .0 .0 .0 .0 .0 .0 .0 .0 .0 .0 .0 .0 .0 .0 .0 .1)) (m .0 .0 .0 .0 .0 .0 .0 .0 .0 .0 .0 .0 .0 .0 .0 .0 .1)) (m .0 .0 .0 .0 .0 .0 .0 .0 .0 .0 .0 .0 .0 .0 .0 .1)) (m .0 .0 .0 .0 .0 .0 .0 .0 .0 .0 .0 .0 .0 .0 .1)) (m .0 .0 .0 .0 .0 .0 .0 .0 .0 .0 .0 .0 .0 .1)) (m .0 .0 .0 .0 .0 .0 .0 .0 .0 .0 .0 .0 .1)) (m .0 .0 .0 .0 .0 .0 .0 .0 .0 .0 .0 .1)) (m .0 .0 .0 .0 .0 .0 .0 .0 .0 .0 .1)) (m .0 .0 .0 .0 .0 .0 .0 .0 .0 .1)) (m .0 .0 .0 .0 .0 .0 .0 .0 .1)) (m .0 .0 .0 .0 .0 .0 .0 .1)) (m .0 .0 .0 .0 .0 .0 .1)) (m .0 .0 .0 .0 .0 .1)) (m .0 .0 .0 .0 .1)) (m .0 .0 .0 .1)) (m .0 .0 .1)) (m .0 .1)) (m .1)))
+    rw (no-more n (above n 19 (above n 18 (above n 17 (above n 16 (above n 15 (above n 14 (above n 13 (above n 12 (above n 11 (above n 10 (above n 9 (above n 8 (above n 7 (above n 6 (above n 5 (above n 4 (above n 3 (above n 2 (above n 1 (above n 0 (omega arith) (m .0 .0 .0 .0 .0 .0 .0 .0 .0 .0 .0 .0 .0 .0 .0 .0 .0 .0 .0 .1)) (m .0 .0 .0 .0 .0 .0 .0 .0 .0 .0 .0 .0 .0 .0 .0 .0 .0 .0 .1)) (m .0 .0 .0 .0 .0 .0 .0 .0 .0 .0 .0 .0 .0 .0 .0 .0 .0 .1)) (m .0 .0 .0 .0 .0 .0 .0 .0 .0 .0 .0 .0 .0 .0 .0 .0 .1)) (m .0 .0 .0 .0 .0 .0 .0 .0 .0 .0 .0 .0 .0 .0 .0 .1)) (m .0 .0 .0 .0 .0 .0 .0 .0 .0 .0 .0 .0 .0 .0 .1)) (m .0 .0 .0 .0 .0 .0 .0 .0 .0 .0 .0 .0 .0 .1)) (m .0 .0 .0 .0 .0 .0 .0 .0 .0 .0 .0 .0 .1)) (m .0 .0 .0 .0 .0 .0 .0 .0 .0 .0 .0 .1)) (m .0 .0 .0 .0 .0 .0 .0 .0 .0 .0 .1)) (m .0 .0 .0 .0 .0 .0 .0 .0 .0 .1)) (m .0 .0 .0 .0 .0 .0 .0 .0 .1)) (m .0 .0 .0 .0 .0 .0 .0 .1)) (m .0 .0 .0 .0 .0 .0 .1)) (m .0 .0 .0 .0 .0 .1)) (m .0 .0 .0 .0 .1)) (m .0 .0 .0 .1)) (m .0 .0 .1)) (m .0 .1)) (m .1)))
 
 pub asked-at-spec : {M : Type 1} → statement M
 asked-at-spec =
     tie.close
     (tie.spec returns returns-2 returns-3 returns-4 returns-5 returns-6 returns-7 returns-8 returns-9 returns-10 returns-11
-    returns-12 returns-13 returns-14 returns-15 returns-16 returns-17 returns-18 returns-19 returns-20)
+    returns-12 returns-13 returns-14 returns-15 returns-16 returns-17 returns-18 returns-19 returns-20 returns-21)

@@ -9,10 +9,10 @@ use Rattle.ask_read.proofs.row_of.Statement.{statement}
 use Rattle.ask_read.proofs.row_of.Tie as tie
 
 abbrev Inv-loop : tie.InvT-loop
-Inv-loop word names n₀ n = (n ≤ 19) × (n + rowOf word (drop n rows) ≡ rowOf word rows)
+Inv-loop word names n₀ n = (n ≤ 20) × (n + rowOf word (drop n rows) ≡ rowOf word rows)
 
 abbrev μ-loop : tie.MeasureT-loop
-μ-loop word names n₀ n = 19 - n
+μ-loop word names n₀ n = 20 - n
 
 slice-aggregate-names : tie.Need-slice-aggregate-names Inv-loop μ-loop
 slice-aggregate-names c = refl

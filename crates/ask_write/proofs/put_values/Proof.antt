@@ -8,7 +8,7 @@ use lib.ListN.{length, getD}
 use Rattle.text.specs.Writing.{PutAt}
 use Rattle.text.proofs.Putting.{put-nothing, put-then, put-length}
 use Rattle.lent.specs.Lent.{bitsOf}
-use Rattle.ask_answer.specs.Answers.{isDouble, valuesIn}
+use Rattle.ask_call.specs.Replies.{isDouble, valuesIn}
 use Rattle.ask_write.specs.Texts.{textTo}
 use Rattle.ask_text.proofs.Lengths.{field-short}
 use Rattle.ask_write.proofs.Lengths.{text-more}

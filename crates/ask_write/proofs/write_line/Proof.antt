@@ -5,7 +5,7 @@ use lib.ListN.{getD}
 use borrow.Author.Needs.{needs}
 use Rattle.text.proofs.Putting.{put-then, put-length}
 use Rattle.lent.specs.Lent.{bitsOf}
-use Rattle.ask_answer.specs.Answers.{valuesIn}
+use Rattle.ask_call.specs.Replies.{valuesIn}
 use Rattle.ask_write.proofs.Lengths.{line-of}
 use Rattle.ask_write.proofs.Reading.{nothing-read, value-is}
 use Rattle.ask_write.proofs.write_line.Statement.{statement}

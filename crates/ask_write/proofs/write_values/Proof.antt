@@ -61,12 +61,15 @@ returns-18 : tie.Need-returns-18
 returns-18 c = rw (c .before .before .before .before .enum-told18 .given .1) (c .before .before .write-globe2 .ensures)
 
 returns-19 : tie.Need-returns-19
-unfolding valuesText
-returns-19 c = rw (c .enum-told19 .given .1) (put-nothing (c .before .before .before .args .buf .now) 0, omega arith)
+returns-19 c = rw (c .before .before .before .before .before .enum-told19 .given .1) (c .before .before .write-line15 .ensures)
 
 returns-20 : tie.Need-returns-20
 unfolding valuesText
 returns-20 c = rw (c .enum-told20 .given .1) (put-nothing (c .before .before .before .args .buf .now) 0, omega arith)
+
+returns-21 : tie.Need-returns-21
+unfolding valuesText
+returns-21 c = rw (c .enum-told21 .given .1) (put-nothing (c .before .before .before .args .buf .now) 0, omega arith)
 
 pub write-values-spec : {M : Type 1} → statement M
 write-values-spec =
@@ -79,9 +82,10 @@ write-values-spec =
     search needs) (λ c. search needs) (λ c. search needs) (λ c κs. search needs) (λ c. search needs) (λ c. search needs) (λ c κs.
     search needs) (λ c. search needs) (λ c κs. search needs) (λ c. search needs) (λ c κs. search needs) (λ c. search needs) (λ c.
     search needs) (λ c κs. search needs) (λ c. search needs) (λ c. search needs) (λ c κs. search needs) (λ c. search needs) (λ c
-    κs. search needs) (λ c. search needs) (λ c κs. search needs) (λ c. search needs) (λ c. search needs) (λ c. search needs)
-    returns (λ c. search needs) returns-2 (λ c. search needs) returns-3 (λ c. search needs) returns-4 (λ c. search needs)
-    returns-5 (λ c. search needs) returns-6 (λ c. search needs) returns-7 (λ c. search needs) returns-8 (λ c. search needs)
-    returns-9 (λ c. search needs) returns-10 (λ c. search needs) returns-11 (λ c. search needs) returns-12 (λ c. search needs)
-    returns-13 (λ c. search needs) returns-14 (λ c. search needs) returns-15 (λ c. search needs) returns-16 (λ c. search needs)
-    returns-17 (λ c. search needs) returns-18 returns-19 returns-20)
+    κs. search needs) (λ c. search needs) (λ c κs. search needs) (λ c. search needs) (λ c. search needs) (λ c κs. search needs)
+    (λ c. search needs) (λ c. search needs) (λ c. search needs) returns (λ c. search needs) returns-2 (λ c. search needs)
+    returns-3 (λ c. search needs) returns-4 (λ c. search needs) returns-5 (λ c. search needs) returns-6 (λ c. search needs)
+    returns-7 (λ c. search needs) returns-8 (λ c. search needs) returns-9 (λ c. search needs) returns-10 (λ c. search needs)
+    returns-11 (λ c. search needs) returns-12 (λ c. search needs) returns-13 (λ c. search needs) returns-14 (λ c. search needs)
+    returns-15 (λ c. search needs) returns-16 (λ c. search needs) returns-17 (λ c. search needs) returns-18 (λ c. search needs)
+    returns-19 returns-20 returns-21)

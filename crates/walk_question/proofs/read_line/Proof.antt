@@ -16,7 +16,7 @@ use Rattle.walk_question.proofs.read_line.Tie as tie
 
 -- what is asked else, by its number
 abbrev others : List ℕ
-others = 0 ∷ 1 ∷ 2 ∷ 3 ∷ 4 ∷ 5 ∷ 7 ∷ 8 ∷ 9 ∷ 10 ∷ 11 ∷ 12 ∷ 13 ∷ 14 ∷ 15 ∷ 16 ∷ 17 ∷ 18 ∷ 19 ∷ []
+others = 0 ∷ 1 ∷ 2 ∷ 3 ∷ 4 ∷ 5 ∷ 7 ∷ 8 ∷ 9 ∷ 10 ∷ 11 ∷ 12 ∷ 13 ∷ 14 ∷ 15 ∷ 16 ∷ 17 ∷ 18 ∷ 19 ∷ 20 ∷ []
 
 slice-aggregate-read-settle : tie.Need-slice-aggregate-read-settle
 slice-aggregate-read-settle c = omega (arith, length-take (c .before .without-end .result) (c .before .before .before .args .s .now), c .before .without-end .ensures .0)

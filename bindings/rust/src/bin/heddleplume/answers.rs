@@ -29,6 +29,7 @@ pub fn to(name: &str, words: &[String]) -> Answer {
         "cross" => cross,
         "settle" => settle,
         "same" => same,
+        "first" => first,
         _ => return Err(help::unknown(name)),
     };
     answer(&mut Words::new(words)).map_err(|failure| failure.about(name))
@@ -72,10 +73,11 @@ fn sphere_point_text(point: &SpherePoint) -> String {
     format!("{} {} {}", point.face, vector_text(point.vector), mark_text(point.mark))
 }
 
+/// A cell's border, from a corner on, that depends on a frame.
+type OnFrame<P> = fn(FaceIJK, &Frame, CellLevel, u32, u32) -> Result<Border<P>, Refusal>;
+
 /// A border on the sphere, on the default frame.
-fn on_default<P>(
-    ask: fn(FaceIJK, &Frame, CellLevel, u32, u32) -> Result<Border<P>, Refusal>,
-) -> impl Fn(FaceIJK, CellLevel, u32, u32) -> Result<Border<P>, Refusal> {
+fn on_default<P>(ask: OnFrame<P>) -> impl Fn(FaceIJK, CellLevel, u32, u32) -> Result<Border<P>, Refusal> {
     move |place, level, start, length| ask(place, &Frame::default(), level, start, length)
 }
 
@@ -93,23 +95,23 @@ fn border<P>(
     Ok(lines.join("\n"))
 }
 
-/// No receiver is behind these questions, so that a bad number has another reason.
-fn no_number(refusal: Refusal, advice: &'static str) -> Failure {
-    if refusal == Refusal::BadNumber { Failure::Advised(refusal, advice) } else { refusal.into() }
+/// The question's own advice on one refusal, where the general one speaks of what is not behind this question: a receiver, a border.
+fn advised(on: Refusal, advice: &'static str) -> impl Fn(Refusal) -> Failure {
+    move |refusal| if refusal == on { Failure::Advised(refusal, advice) } else { refusal.into() }
 }
 
 fn sphere(words: &mut Words) -> Answer {
     let (face, level, point) = (words.number("FACE")?, words.grid_level()?, words.point()?);
     words.end()?;
-    let lifted = sphere_point(&Frame::default(), face, level, point);
-    Ok(vector_text(lifted.map_err(|refusal| no_number(refusal, "pass a finite point that lies on its face or near it"))?))
+    let no_number = advised(Refusal::BadNumber, "pass a finite point that lies on its face or near it");
+    Ok(vector_text(sphere_point(&Frame::default(), face, level, point).map_err(no_number)?))
 }
 
 fn root(words: &mut Words) -> Answer {
     let number = words.double("X")?;
     words.end()?;
-    let root = square_root(number).map_err(|refusal| no_number(refusal, "pass a finite number from 0 up"))?;
-    Ok(root.to_string())
+    let no_number = advised(Refusal::BadNumber, "pass a finite number from 0 up");
+    Ok(square_root(number).map_err(no_number)?.to_string())
 }
 
 fn corners(words: &mut Words) -> Answer {
@@ -180,10 +182,22 @@ fn settle(words: &mut Words) -> Answer {
     Ok(format!("{} {}", place_text(rested.place), rested.steps))
 }
 
+/// A corner that lies outside its face has one remedy.
+fn outside(refusal: Refusal) -> Failure {
+    advised(Refusal::OutOfFace, "settle the corner first, on the grid s of the same level")(refusal)
+}
+
 fn same(words: &mut Words) -> Answer {
+    let level = words.grid_level()?;
     let ((one, ()), (other, ())) = (words.place(|_| Ok(()))?, words.place(|_| Ok(()))?);
     words.end()?;
-    Ok(if one.same_corner(other)? { "yes" } else { "no" }.into())
+    Ok(if one.same_corner(other, level).map_err(outside)? { "yes" } else { "no" }.into())
+}
+
+fn first(words: &mut Words) -> Answer {
+    let (place, level) = words.place(Words::grid_level)?;
+    words.end()?;
+    Ok(place_text(place.first_name(level).map_err(outside)?))
 }
 
 #[cfg(test)]

@@ -15,7 +15,7 @@ const fn entry(name: &'static str, form: &'static str, example: &'static str, an
     Entry { name, form, example, answer }
 }
 
-static ENTRIES: [Entry; 19] = [
+static ENTRIES: [Entry; 20] = [
     entry("place", "LEVEL X Y Z", "9 0.6 0 0.8", "face i j k: the place of a unit vector"),
     entry("nearest", "X Y Z", "0.6 0 0.8", "the nearest face, and the squared distance from its centre"),
     entry("border", "FACE LEVEL I J K [START LENGTH]", "0 1 1 0 0", "a hexagon's border: face x y corner|crossing of each point"),
@@ -38,7 +38,8 @@ static ENTRIES: [Entry; 19] = [
     entry("step", "FACE LEVEL p|s I J K EDGE", "0 0 p 3 0 0 1", "face i j k: the place named from over edge 1, 2 or 3"),
     entry("cross", "FACE LEVEL p|s I J K yes|no", "0 0 p 3 0 0 no", "face i j k None|FaceEdge|NewFace: one crossing; yes: pentagon turn"),
     entry("settle", "FACE LEVEL p|s I J K", "0 0 p 3 0 0", "face i j k steps: crossings until the place lies on its face"),
-    entry("same", "FACE I J K FACE I J K", "0 2 0 0 4 2 0 0", "yes or no: whether two corners are one"),
+    entry("same", "LEVEL FACE I J K FACE I J K", "0 4 4 0 2 0 4 2 0", "yes or no: whether two corners are one, by whatever names"),
+    entry("first", "FACE LEVEL I J K", "4 0 4 0 2", "face i j k: of all names of a corner the one with the lowest face"),
     entry("batch", "LEVEL", "9 <vectors.csv >places.csv", "a whole file: for each line x,y,z a line face,i,j,k"),
 ];
 
@@ -56,9 +57,10 @@ const BOTTOM: &str = "
 A vector has length 1. Of a latitude and a longitude it is
   x = cos(lat) cos(lon), y = cos(lat) sin(lon), z = sin(lat)
 Doubles are decimals, as 0.6, -1e-3 or nan. The nearest double is taken; the shortest decimal that reads back
-as the same double is answered. LEVEL is a cell level 0..15, in step, cross, settle and sphere an even grid
-level 0..16. p is the grid of the cells, s that of their corners, on which the points of a border lie. A border
-has all corners of the cell, or LENGTH of them from corner START on; each point has a line of its own.
+as the same double is answered. LEVEL is a cell level 0..15, in step, cross, settle, same, first and sphere an
+even grid level 0..16. p is the grid of the cells, s that of their corners, on which the points of a border and
+the corners of same and first lie. A border has all corners of the cell, or LENGTH of them from corner START on;
+each point has a line of its own. A corner on an edge has a name on both faces, that of a face has five.
 
 batch answers each line x,y,z by one line, in order. Each has four columns:
   9,0,3944,11640          face,i,j,k

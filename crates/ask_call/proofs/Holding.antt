@@ -18,7 +18,7 @@ use Rattle.reply.specs.Replies.{numberOf, refusal, reply, zeros}
 use Rattle.reply.proofs.Numbers.{number-pos}
 use Rattle.lent.specs.Lent.{held, Gives}
 use Rattle.ask_read.specs.declared.Asked.{Asked}
-use Rattle.ask_answer.specs.Answers.{kindsOf, isDouble, valuesIn, doublesIn, numbersIn, Holds}
+use Rattle.ask_call.specs.Replies.{kindsOf, isDouble, valuesIn, doublesIn, numbersIn, Holds}
 
 -- ---- zeros
 

@@ -29,8 +29,8 @@ use Rattle.lent.specs.Lent.{held}
 use Rattle.lent_borders.specs.Borders as plane
 use Rattle.lent_globe.specs.Globes as sphere
 use Rattle.ask_read.specs.declared.Asked.{Asked}
-use Rattle.ask_answer.specs.Answers.{kindsOf, doublesIn, numbersIn, Holds}
-use Rattle.ask_answer.proofs.Holding.{Parted, nothing, number, double, holds}
+use Rattle.ask_call.specs.Replies.{kindsOf, doublesIn, numbersIn, Holds}
+use Rattle.ask_call.proofs.Holding.{Parted, nothing, number, double, holds}
 
 -- the kinds of n points, each of which has d doubles
 abbrev pub pointKinds : ℕ → ℕ → List ℕ

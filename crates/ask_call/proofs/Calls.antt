@@ -1,12 +1,11 @@
 -- What each function of the C face gives lies in an answer as its question's kinds say. Assumes nothing.
 use mathlib.Core.Path.{_≡_, refl, _∙_}
-use mathlib.Core.Bool.{Bool, _||_}
+use mathlib.Core.Bool.{Bool, true, _||_}
 use mathlib.Core.List.{List, [], _∷_}
 use Prim.Native.Nat.{ℕ, _≤_}
 use lib.Dec.{lit≤}
 use lib.Ieee.{Float, binary64, toBits}
-use lib.ListN.{length, take, drop}
-use borrow.Author.Tests.{eq-eqb}
+use lib.ListN.{take, drop}
 use Rattle.reply.specs.Choice.{pick}
 use Rattle.reply.specs.declared.Refusal.the-variants.{BadFace}
 use Rattle.reply.specs.Replies.{first, when, zeros}
@@ -19,8 +18,11 @@ use Rattle.faceijk.specs.Places.{place, coordOf, placeValues, QAt, badFace, pla
 use Rattle.faceijk.specs.Faces.{dirTo}
 use Rattle.faceijk.specs.Steps.{stepOf}
 use Rattle.faceijk.specs.Crossing.{crossingOf, settleFrom}
-use Rattle.faceijk.specs.Entries.{turnMap, turnReply, badEdge, stepReply, landedValues, crossReply, restedValues, settleReply, directionReply, sameVerdict, samePlace, sameReply}
+use Rattle.faceijk.specs.Entries.{turnMap, turnReply, badEdge, stepReply, landedValues, crossReply, restedValues, settleReply, directionReply}
+use Rattle.names.specs.Row.{sameOf, firstOf}
+use Rattle.names.specs.Entries.{namesVerdict, firstReply, sameReply}
 use Rattle.vec2d.specs.declared.Vec2d.{Vec2d}
+use Rattle.vec2d.specs.declared.Line.{Line}
 use Rattle.vec2d.specs.Rounding.{roundVerdict, nearestOf, roundReply}
 use Rattle.vec2d.specs.Centre.{centreOf, centreReply}
 use Rattle.vec2d.specs.Meeting.{meetVerdict, meetReply}
@@ -39,13 +41,11 @@ use Rattle.lent_places.specs.Places.{GivesNearest}
 use Rattle.lent_borders.specs.Borders.{marksOf, pointsOf, GivesBoundary}
 use Rattle.lent_globe.specs.Globes as sphere
 use Rattle.lent_globe.specs.Globes.{GivesGlobe}
-use Rattle.lent_grid.specs.Lines.{linesReply}
-use Rattle.vec2d.specs.Meeting.{lineAt}
-use Rattle.ask_read.specs.declared.Asked.the-variants.{Round, Centre, Meet, Turn, Step, Cross, Settle, Direction, Same, Nearest, Corners, Root, Sphere}
+use Rattle.ask_read.specs.declared.Asked.the-variants.{Round, Centre, Meet, Turn, Step, Cross, Settle, Direction, Same, Nearest, Corners, Root, Sphere, First}
 use Rattle.ask_read.specs.declared.Asked.{Asked}
-use Rattle.ask_answer.specs.Answers.{kindsOf, numbersIn, doublesIn, Holds}
-use Rattle.ask_answer.proofs.Holding.{nothing, number as front, double, holds, numbers, doubles, gives, gives-doubles, framed}
-use Rattle.ask_answer.proofs.Bordering.{pointKinds, border, globe, globe-framed}
+use Rattle.ask_call.specs.Replies.{kindsOf, numbersIn, doublesIn, Holds}
+use Rattle.ask_call.proofs.Holding.{nothing, number as front, double, holds, numbers, doubles, gives, gives-doubles, framed}
+use Rattle.ask_call.proofs.Bordering.{pointKinds, border, globe, globe-framed}
 
 module _ {k : ℕ} {out ns ds : List ℕ} (clear : out ≡ zeros 25) (none : ds ≡ zeros 36) where
   pub round : (p : Vec2d) → Gives 3 (roundReply p) out ns k → Holds Round (roundReply p) k ns ds
@@ -77,9 +77,13 @@ module _ {k : ℕ} {out ns ds : List ℕ} (clear : out ≡ zeros 25) (none : ds 
   direction f g =
       gives Direction 1 (first (when (badFace f || badFace g) BadFace ∷ [])) (dirTo f g ∷ []) refl refl refl refl (lit≤ tt) clear none
 
-  pub same : (p q : Place) → Gives 1 (sameReply p q) out ns k → Holds Same (sameReply p q) k ns ds
+  pub same : (p q : Place) (l : ℕ) → Gives 1 (sameReply p q l) out ns k → Holds Same (sameReply p q l) k ns ds
   unfolding numbersIn doublesIn
-  same p q = gives Same 1 (sameVerdict p q) (pick (samePlace p q) 1 0 ∷ []) refl refl refl refl (lit≤ tt) clear none
+  same p q l = gives Same 1 (namesVerdict p q l) (pick (sameOf (gridOf l true) p q) 1 0 ∷ []) refl refl refl refl (lit≤ tt) clear none
+
+  pub first-of : (p : Place) (l : ℕ) → Gives 4 (firstReply p l) out ns k → Holds First (firstReply p l) k ns ds
+  unfolding numbersIn doublesIn
+  first-of p l = gives First 4 (namesVerdict p p l) (placeValues (firstOf (gridOf l true) p)) refl refl refl refl (lit≤ tt) clear none
 
   pub corners : (p : Place) (l : ℕ) → Gives 19 (cornersReply p l) out ns k → Holds Corners (cornersReply p l) k ns ds
   unfolding numbersIn doublesIn sixCorners
@@ -100,15 +104,10 @@ module _ {k : ℕ} {out ns ds : List ℕ} (clear : ns ≡ zeros 25) (none : out 
   centre c =
       gives-doubles Centre 2 (verdictOf c) (toBits binary64 (centreOf c .x) ∷ toBits binary64 (centreOf c .y) ∷ []) refl refl refl refl (lit≤ tt) clear none
 
-  pub meet : (xs : List Float) → length xs ≡ 8 → Gives 2 (linesReply xs) out ds k → Holds Meet (meetReply (lineAt xs 0) (lineAt xs 4)) k ns ds
+  pub meet : (a b : Line) → Gives 2 (meetReply a b) out ds k → Holds Meet (meetReply a b) k ns ds
   unfolding numbersIn doublesIn
-  meet xs l g =
-      let a = lineAt xs 0 in
-      let b = lineAt xs 4 in
-      let r = meetReply a b in
-      let number : k ≡ r .number = rw (none, eq-eqb (length xs) 8 l) at (g .number) in
-      let so : ds ≡ held k 2 (r .values) (zeros 36) = rw (none, eq-eqb (length xs) 8 l) at (g .values) in
-      doubles Meet 2 (meetVerdict a b) (toBits binary64 (meetingOf a b .at .x) ∷ toBits binary64 (meetingOf a b .at .y) ∷ []) refl refl refl refl number so clear
+  meet a b =
+      gives-doubles Meet 2 (meetVerdict a b) (toBits binary64 (meetingOf a b .at .x) ∷ toBits binary64 (meetingOf a b .at .y) ∷ []) refl refl refl refl (lit≤ tt) clear none
 
   pub root : (x : Float) → Gives 1 (rootReply x) out ds k → Holds Root (rootReply x) k ns ds
   unfolding numbersIn doublesIn

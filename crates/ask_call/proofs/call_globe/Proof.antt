@@ -1,7 +1,7 @@
 -- `call_globe` meets its contract: what the C face gives for the place of its fields. Assumes nothing.
 use borrow.Author.Needs.{needs}
-use Rattle.ask_answer.proofs.call_globe.Statement.{statement}
-use Rattle.ask_answer.proofs.call_globe.Tie as tie
+use Rattle.ask_call.proofs.call_globe.Statement.{statement}
+use Rattle.ask_call.proofs.call_globe.Tie as tie
 
 returns : tie.Need-returns
 returns c = rw (← (c .before .before .before .before .before .before .before .new .ensures)) (c .before .before .before .before .border .ensures)
