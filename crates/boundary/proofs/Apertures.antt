@@ -5,6 +5,7 @@ use Prim.Native.Nat.{ℕ, _+_, _*_, _<_}
 use native.Mathlib.Omega.{arith}
 use lib.Dec.{T, leb, leb→le}
 use lib.Ieee.Fits.{and-l, and-r}
+use Rattle.reply.specs.Choice.{pick}
 use Rattle.level.proofs.Computed.{at}
 use Rattle.coordijk.specs.declared.CoordIJK.{CoordIJK}
 use Rattle.coordijk.specs.declared.GridMap.the-variants.{Aperture3Ccw, Aperture3Cw, Aperture7Cw}
@@ -52,18 +53,27 @@ upto-centre false c t =
     let u = upto-three c _ refl t in
     record { i-upto = omega (arith, u .i-upto); j-upto = omega (arith, u .j-upto); k-upto = omega (arith, u .k-upto) }
 
--- the offsets are at most 5: computed over the two tables
-abbrev small : CoordIJK → Bool
-small o = leb (o .i) 5 && (leb (o .j) 5 && leb (o .k) 5)
+-- the offsets are at most 2, of Class III at most 5: computed over the two tables
+abbrev pub widest : Bool → ℕ
+widest odd = pick odd 5 2
 
-is-small : (o : CoordIJK) → T (small o) → Upto 5 o
-is-small o t =
-    let r = and-r (leb (o .i) 5) _ t in
-    record { i-upto = leb→le _ _ (and-l (leb (o .i) 5) _ t); j-upto = leb→le _ _ (and-l (leb (o .j) 5) _ r); k-upto = leb→le _ _ (and-r (leb (o .j) 5) _ r) }
+abbrev small : ℕ → CoordIJK → Bool
+small n o = leb (o .i) n && (leb (o .j) n && leb (o .k) n)
+
+is-small : (n : ℕ) (o : CoordIJK) → T (small n o) → Upto n o
+is-small n o t =
+    let r = and-r (leb (o .i) n) _ t in
+    record { i-upto = leb→le _ _ (and-l (leb (o .i) n) _ t); j-upto = leb→le _ _ (and-l (leb (o .j) n) _ r); k-upto = leb→le _ _ (and-r (leb (o .j) n) _ r) }
+
+pub offset-within : (odd : Bool) (v : ℕ) → v < 6 → Upto (widest odd) (offsetOf odd v)
+offset-within true v h = is-small 5 _ (at (λ (k : ℕ). small 5 (offsetOf true k)) 6 tt v h)
+offset-within false v h = is-small 2 _ (at (λ (k : ℕ). small 2 (offsetOf false k)) 6 tt v h)
 
 pub offset-small : (odd : Bool) (v : ℕ) → v < 6 → Upto 5 (offsetOf odd v)
-offset-small true v h = is-small _ (at (λ (k : ℕ). small (offsetOf true k)) 6 tt v h)
-offset-small false v h = is-small _ (at (λ (k : ℕ). small (offsetOf false k)) 6 tt v h)
+offset-small true v h = offset-within true v h
+offset-small false v h =
+    let o = offset-within false v h in
+    record { i-upto = omega (arith, o .i-upto); j-upto = omega (arith, o .j-upto); k-upto = omega (arith, o .k-upto) }
 
 pub offset-small-of : (odd : Bool) (v : ℕ) (o : CoordIJK) → o ≡ offsetOf odd v → v < 6 → Upto 5 o
 offset-small-of odd v o e h = rw e (offset-small odd v h)

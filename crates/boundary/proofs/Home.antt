@@ -1,11 +1,10 @@
 -- Where corners come to rest: on their face, but for a hexagon that is asked for where a pentagon lies. Assumes nothing.
 use mathlib.Core.Path.{_≡_, refl, sym, ap, _∙_, subst}
-use mathlib.Core.Bool.{Bool, true, false, _&&_}
+use mathlib.Core.Bool.{Bool, true, false}
 use Prim.Native.Nat.{ℕ, _+_, _-_, _*_, _/_, _≤_, _<_}
 use native.Mathlib.Decide.{decLt}
 use native.Mathlib.Omega.{arith}
-use lib.Dec.{T, ltb, eqb, eqb→eq, ltb→lt}
-use lib.Ieee.Fits.{and-l, and-r}
+use lib.Dec.{T, ltb, eqb, eqb→eq}
 use borrow.Author.Tests.{ltb-true, ltb-false, eqb-true, eqb-false}
 use Rattle.reply.specs.Choice.{pick}
 use Rattle.reply.specs.declared.Verdict.the-variants.{Fine}
@@ -29,7 +28,7 @@ use Rattle.boundary.specs.Corners.{classIII, throughApertures, offsetOf,
 use Rattle.boundary.specs.Landing.{cellOf, substrateOf, cornerPlace, crossedOnce, settledAt, landFrom, vertexOf, landAt}
 use Rattle.boundary.specs.Boundaries.{boundaryReasons, askedShape}
 use Rattle.boundary.specs.AsWalked.{Fit}
-use Rattle.boundary.proofs.Apertures.{tripled, seven, then-seven}
+use Rattle.boundary.proofs.Apertures.{tripled, seven, then-seven, widest, offset-within}
 use Rattle.boundary.proofs.Cells.{substrate-limit}
 use Rattle.boundary.proofs.Landing.{six, vertex-low, corner-okay, land-okay}
 use Rattle.boundary.proofs.CornerFaces.{asked-of, asked-fit}
@@ -127,8 +126,9 @@ apertures-odd c t =
     (sym (seven (throughApertures false c)) ∙
     (ap (λ (q : CoordIJK). reduced (3 * q .i + q .k) (3 * q .j + q .i) (3 * q .k + q .j)) (sym (tripled c t)) ∙ reduced-same (omega arith) (omega arith) (omega arith)))
 
+-- it keeps farther away than any offset of a corner reaches: 3, and 6 at an odd level
 abbrev slack : Bool → ℕ
-slack odd = pick odd 6 3
+slack odd = widest odd + 1
 
 centre-below : (odd : Bool) (c : CoordIJK) (m t : ℕ) → Taken c → (odd ≡ true → m ≡ 7 * t) → NoCorner (3 * m) (throughApertures odd c) → sumOf (throughApertures odd c) ≤ 3 * m → Below (slack odd) (3 * m) (throughApertures odd c)
 centre-below true c m t taken sevenths n near =
@@ -154,29 +154,12 @@ sevens-of l h odd = eqb→eq _ _ (subst (λ (b : Bool). T (pick b (eqb (limitOf 
 
 -- ---- so no coordinate of a corner is above the limit
 
-abbrev short : Bool → CoordIJK → Bool
-short odd o = ltb (o .i) (slack odd) && (ltb (o .j) (slack odd) && ltb (o .k) (slack odd))
-
-record Short (n : ℕ) (o : CoordIJK) : Type 0 where
-  i-short : o .i < n
-  j-short : o .j < n
-  k-short : o .k < n
-
-is-short : (odd : Bool) (o : CoordIJK) → T (short odd o) → Short (slack odd) o
-is-short odd o t =
-    let r = and-r (ltb (o .i) (slack odd)) _ t in
-    record { i-short = ltb→lt _ _ (and-l (ltb (o .i) (slack odd)) _ t); j-short = ltb→lt _ _ (and-l (ltb (o .j) (slack odd)) _ r); k-short = ltb→lt _ _ (and-r (ltb (o .j) (slack odd)) _ r) }
-
-offset-short : (odd : Bool) (v : ℕ) → v < 6 → Short (slack odd) (offsetOf odd v)
-offset-short true v h = is-short true _ (at (λ (k : ℕ). short true (offsetOf true k)) 6 tt v h)
-offset-short false v h = is-short false _ (at (λ (k : ℕ). short false (offsetOf false k)) 6 tt v h)
-
 corner-low : (odd : Bool) (c : CoordIJK) (m v : ℕ) → v < 6 → Below (slack odd) m c → let q = cornerOf odd c v in (q .i ≤ m) × (q .j ≤ m) × (q .k ≤ m)
 unfolding cornerOf
 corner-low odd c m v h b =
-    let o = offset-short odd v h in
+    let o = offset-within odd v h in
     let w = reduced-low (c .i + offsetOf odd v .i) (c .j + offsetOf odd v .j) (c .k + offsetOf odd v .k) in
-    (omega (arith, w, o .i-short, b .i-below), omega (arith, w, o .j-short, b .j-below), omega (arith, w, o .k-short, b .k-below))
+    (omega (arith, w, o .i-upto, b .i-below), omega (arith, w, o .j-upto, b .j-below), omega (arith, w, o .k-upto, b .k-below))
 
 -- ---- and so one crossing brings it home, as settling does any
 

@@ -8,4 +8,3 @@ pub mod Taking
 pub mod Laws
 pub mod Unique
 pub mod Answers
-pub mod Checked

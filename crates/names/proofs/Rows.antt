@@ -14,10 +14,10 @@ use Rattle.faceijk.specs.Places.{sumAt}
 use Rattle.faceijk.specs.Faces.{faceOver}
 use Rattle.faceijk.specs.Steps.{stepOf}
 use Rattle.faceijk.proofs.Faces.{Mate, backOver, mate-over}
+use Rattle.faceijk.proofs.Edges.{Edge, ij, ki, jk, edge-of, edge-low, at, point, point-sum, back-edge, exchanged}
 use Rattle.names.specs.Names.{LiesOn, Reached, here, beyond}
 use Rattle.names.specs.Row.{nextName, others}
 use Rattle.names.specs.Entries.{Inside}
-use Rattle.faceijk.proofs.Edges.{Edge, ij, ki, jk, edge-of, edge-low, at, point, point-sum, back-edge, exchanged}
 use Rattle.names.proofs.Corners.{Dart, dart, after, before, onward, onwards, five-round, back-back}
 use Rattle.names.proofs.Sorts.{edge-after, edge-before, end-is, begin-is, lies-on, Which, this, other, which, Kind, inner, between, corner, kind-of, next-inner, next-point, others-inner, others-between, others-corner}
 

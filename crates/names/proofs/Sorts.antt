@@ -15,13 +15,13 @@ use Rattle.faceijk.specs.Places.{sumAt}
 use Rattle.faceijk.specs.Faces.{faceOver}
 use Rattle.faceijk.specs.Steps.{stepOf}
 use Rattle.faceijk.proofs.Faces.{backOver}
+use Rattle.faceijk.proofs.Edges.{Edge, ij, ki, jk, edge-low, at, point, point-sum, exchanged}
 use Rattle.names.specs.Names.{across, LiesOn}
 use Rattle.names.specs.Row.{edgeAt, nextName, others}
 use Rattle.names.specs.Entries.{Inside}
-use Rattle.faceijk.proofs.Edges.{Edge, ij, ki, jk, edge-low, at, point, point-sum, exchanged}
 use Rattle.names.proofs.Corners.{after, before}
 
--- the edge that begins where e ends, and the one that ends where e begins
+-- the edge after an edge, and the one before it, are edges
 pub edge-after : {e : ℕ} → Edge e → Edge (after e)
 edge-after ij = jk
 edge-after ki = ij
@@ -42,6 +42,7 @@ edge-range p = go (eqb (p .k) 0) (eqb (p .i) 0) (eqb (p .j) 0)
     go false b true = omega arith
     go false b false = omega arith
 
+-- the edge before an edge is another
 pub before-other : {e : ℕ} → Edge e → before e ≡ e → ⊥
 before-other ij q = omega arith
 before-other ki q = omega arith
@@ -59,7 +60,7 @@ module _ (f m : ℕ) where
   begin-is ki = refl
   begin-is jk = refl
 
--- the sum of a point's coordinates, and the edge over which its next name lies
+-- its coordinate across the edge, and the edge over which its next name lies
 module _ (f x y : ℕ) where
   pub point-none : {e : ℕ} → Edge e → across (point f e x y) e ≡ 0
   point-none ij = refl
@@ -91,11 +92,13 @@ which f x y jk ij h z = other z
 which f x y jk ki h z = absurd (omega arith)
 which f x y jk jk h z = this
 
+-- away from the corners only the one
 pub only-this : {e y d : ℕ} → Which e y d → 0 < y → d ≡ e
 only-this this h = refl
 only-this (other z) h = absurd (omega arith)
 
 module _ (g : Grid) where
+  -- a point lies on the edge that it is named by, and at a corner on the one before
   pub lies-on : (f x y : ℕ) {e : ℕ} → Edge e → x + y ≡ g .limit → LiesOn g (point f e x y) e
   lies-on f x y d s = let l = edge-low d in record { low = l .0; high = l .1; at-limit = point-sum f x y d ∙ s; none = point-none f x y d }
 
