@@ -246,7 +246,8 @@ uint32_t heddleplume_settle(uint32_t face, uint32_t i, uint32_t j, uint32_t k, u
  * Whether two corners are one. `level` is a grid level, and both are places of its substrate grid, whose i + j + k is at most the limit
  * that heddleplume_grid gives. Where i + j + k is that limit, the corner lies on an edge, on IJ if k is 0, on KI if j is 0, on JK if i is
  * 0, and heddleplume_step over that edge gives another name of it: there are two on an edge, five where two edges end. The answer is yes
- * exactly when such steps lead from the one name to the other.
+ * exactly when such steps lead from the one name to the other. (Without a level it once compared the two places themselves, which told
+ * the corners of neighbouring cells apart along edges; that answer is gone.)
  * Writes out[0]: 1 yes, 0 no. Refusals: 2, 3, 4, 10, 11; 3, 10 and 11 of either corner.
  */
 uint32_t heddleplume_same_corner(uint32_t face, uint32_t i, uint32_t j, uint32_t k, uint32_t other_face, uint32_t other_i,
@@ -262,7 +263,9 @@ uint32_t heddleplume_first_name(uint32_t face, uint32_t i, uint32_t j, uint32_t 
 /* ---- Corners and borders ---- */
 
 /*
- * The corners of a cell on its substrate grid; a pentagon takes the first five. `level` is a cell level.
+ * The corners of a cell on its substrate grid; a pentagon takes the first five. `level` is a cell level. All are named from the cell's own
+ * face, also those that lie outside of it: to compare them with another cell's, settle each on the substrate grid of out[0] and take its
+ * heddleplume_first_name.
  * Writes out[0..18]: the grid level, then i j k six times. Refusals: 2, 3, 4, 10.
  */
 uint32_t heddleplume_corners(uint32_t face, uint32_t i, uint32_t j, uint32_t k, uint32_t level, uint32_t *out, size_t out_len);

@@ -290,7 +290,7 @@ impl Place {
         }
     }
 
-    // The step over an edge: the table's turns and translations, as sums. Public for boundaries, which have tested place and grid.
+    // The step over an edge: the table's turns and translations, as sums. Public for boundaries and names, which have tested place and grid.
     pub fn over(self, edge: u32, grid: Grid) -> Place
         requires { ⌜ Ready self × (self .face < 20) × (1 ≤ edge) × (edge ≤ 3) × Sound grid ⌝ }
         ensures { λ r. ⌜ r ≡ stepOf self edge (grid .unit) ⌝ }

@@ -169,7 +169,7 @@ pub extern "C" fn heddleplume_settle(
     lent_grid::settle(face, i, j, k, level, substrate, out)
 }
 
-// Whether two corners are the same: 1 yes, 0 no.
+// Whether two corners are the same, by whatever names: 1 yes, 0 no. The answer that compared two places is gone.
 #[no_mangle]
 pub extern "C" fn heddleplume_same_corner(
     face: u32,

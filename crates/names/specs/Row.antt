@@ -16,6 +16,7 @@ atLimit g p = eqb (sumAt p) (g .limit)
 abbrev pub edgeAt : Place → ℕ
 edgeAt p = pick (eqb (p .k) 0) (pick (eqb (p .i) 0) 3 1) (pick (eqb (p .j) 0) 2 3)
 
+-- the next name: the step over that edge; an inner point is its own
 unfoldable pub nextName : Grid → Place → Place
 nextName g p = pick (atLimit g p) (stepOf p (edgeAt p) (g .unit)) p
 
@@ -26,10 +27,11 @@ faceCorner g p = eqb (p .i) (g .limit) || (eqb (p .j) (g .limit) || eqb (p .k) (
 unfoldable pub others : Grid → Place → ℕ
 others g p = pick (atLimit g p) (pick (faceCorner g p) 4 1) 0
 
--- whether q is p or one of the n names that follow it
+-- one place, number by number
 abbrev pub samePlace : Place → Place → Bool
 samePlace p q = eqb (p .face) (q .face) && eqb (p .i) (q .i) && eqb (p .j) (q .j) && eqb (p .k) (q .k)
 
+-- whether q is p or one of the n names that follow it
 unfoldable pub among : ℕ → Grid → Place → Place → Bool
 among zero g p q = samePlace p q
 among (suc n) g p q = samePlace p q || among n g (nextName g p) q

@@ -29,7 +29,7 @@ fn at_limit(p: Place, grid: Grid) -> bool
     p.sum() == grid.limit as u64
 }
 
-// The edge over which the next name lies.
+// The edge over which the next name lies: each has its first corner and not its last, so that at a corner the names go round it.
 fn edge_at(p: Place) -> u32
     ensures { λ r. ⌜ r ≡ edgeAt p ⌝ }
 {
@@ -40,6 +40,7 @@ fn edge_at(p: Place) -> u32
     }
 }
 
+// An inner point is its own next name.
 fn next_name(p: Place, grid: Grid) -> Place
     requires { ⌜ Inside grid p × Sound grid ⌝ }
     ensures { λ r. ⌜ r ≡ nextName grid p ⌝ }
