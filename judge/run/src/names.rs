@@ -209,8 +209,9 @@ fn vector(frame: &Frame, (f, i, j, k): At, level: u32) -> Vector {
 }
 
 /// How far apart the vectors of two names of a point may lie: 2^-48. In units of 2^-53, with s the sine of the angle from the face's
-/// centre: docs/DIFFERENCES.md counts 5.5 + 6.5·s for the roundings of one vector, and that of y on the plane adds 1.6·s, so that on a
-/// face, where s is at most 0.61, two vectors part by 21; the default frame's own doubles, taken exactly, part them by up to 6.9.
+/// centre: docs/DIFFERENCES.md counts 5.5 + 6.5·s for the roundings of one vector, and that of y on the plane adds some 1.6·s, which is
+/// estimated, so that on a face, where s is at most 0.61, two vectors part by 21; the default frame's own doubles, taken exactly at 43
+/// points of each edge, part them by up to 6.9.
 const APART: f64 = 16. * f64::EPSILON;
 
 fn one_vector(tally: &mut Tally, apart: &mut Most, frame: &Frame, at: At, level: u32) {
