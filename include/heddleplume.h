@@ -5,10 +5,12 @@
  *
  * What holds for every function here:
  *
- * - It returns 0 if it answered, otherwise the number of its refusal, one of enum heddleplume_refusal. Of several that apply the
- *   smallest is given; of the points of a border the first that is refused decides.
+ * - It returns 0 if it answered, otherwise the number of its refusal, one of enum heddleplume_refusal. Of several that apply the first
+ *   in this order is given: 14, 1, 2, 15, 3, 4, 5, 6, 7, 8, 9, 10, 11, 12, 13. Of the points of a border the first that is refused
+ *   decides.
  * - The answer goes into the memory lent for it, each piece of which comes with its length in elements. It may be longer than stated
- *   here; what lies past the answer stays as it was. Shorter gets 2, HEDDLEPLUME_BAD_ROWS.
+ *   here; what lies past the answer stays as it was. Shorter gets 2, HEDDLEPLUME_BAD_ROWS. Only heddleplume_region_write wants its
+ *   output of one length, neither shorter nor longer.
  * - A refusal writes nothing. The memory then still holds what it held before, perhaps an old answer: so read the number first, and
  *   the memory only if the number is 0.
  * - Any number may be passed. One below zero arrives as a large one and is refused: i = -1 gets 10.
@@ -19,7 +21,8 @@
  *
  * A place is a face 0..19 and coordinates i, j, k. The least of the three is 0 and none is above 2^26, in what is passed (otherwise 10)
  * and in what is answered; only the answers of heddleplume_step, of heddleplume_cross with the turn, of heddleplume_corners, of
- * heddleplume_reduce and of heddleplume_map may be above 2^26, and other functions then refuse them with 10.
+ * heddleplume_reduce and of heddleplume_map may be above 2^26, and other functions then refuse them with 10. (In a region list, and in
+ * rows for one, a wrong place gets 15; and of a list that has not passed its check heddleplume_region_record gives out what is there.)
  * A cell level is 0..15. A grid level is even, 0..16: an odd cell level is raised by one.
  *
  * Every entry of the library that answers a question is a function here. Left out, since a caller loses nothing: the tests alone (each
@@ -46,7 +49,8 @@ enum heddleplume_refusal {
     HEDDLEPLUME_BAD_ROWS = 2,      /* a wrong length, or the rows do not fit: lend the lengths stated */
     HEDDLEPLUME_BAD_FACE = 3,      /* a face above 19 */
     HEDDLEPLUME_BAD_LEVEL = 4,     /* a cell level above 15; a grid level that is odd or above 16 */
-    HEDDLEPLUME_BAD_RANGE = 5,     /* an edge not 1..3, a map not 1..5, or a start or length of a border out of range */
+    HEDDLEPLUME_BAD_RANGE = 5,     /* an edge not 1..3, a map not 1..5, a start or length of a border out of range, or a record number that
+                                      is not below the count */
     HEDDLEPLUME_BAD_NUMBER = 6,    /* a NaN or an infinity: the receiver has no fix, do not switch its feed. Also a root of a number below
                                       0, and a point on the sphere whose length is not finite or whose face has a u of length 0 */
     HEDDLEPLUME_OFF_SPHERE = 7,    /* the vector's length is not 1: divide the vector by its length first */
@@ -60,26 +64,31 @@ enum heddleplume_refusal {
     HEDDLEPLUME_NOT_ADJACENT = 12, /* a border runs over faces that are not neighbours: the centre is no pentagon's, or the pentagon is
                                       named on a face where it lies on the j or k axis: name it where it lies on the i axis */
     HEDDLEPLUME_NO_CROSSING = 13,  /* two lines do not meet */
-    HEDDLEPLUME_BAD_LINE = 14      /* a malformed line of text; no function of this header gives it */
+    HEDDLEPLUME_BAD_LINE = 14,     /* a malformed line of text; no function of this header gives it */
+    HEDDLEPLUME_BAD_LIST = 15      /* a region list of a wrong length, order, place or tail: it is damaged or no region list, so write it
+                                      again. Of rows for one: sort them, drop repeats and rows that a batch has refused */
 };
 
 /* Lengths in elements. */
 enum heddleplume_length {
-    HEDDLEPLUME_FRAME_LEN = 180,  /* doubles: centre, u, v of each of the twenty faces */
-    HEDDLEPLUME_VECTOR_LEN = 3,   /* doubles: x y z */
-    HEDDLEPLUME_ROW_LEN = 4,      /* numbers: face i j k */
-    HEDDLEPLUME_LINES_LEN = 8,    /* doubles: x y of from and to, of the first line and then of the second */
-    HEDDLEPLUME_POINT_LEN = 2,    /* doubles: x y */
-    HEDDLEPLUME_COORD_LEN = 3,    /* numbers: i j k */
-    HEDDLEPLUME_GRID_LEN = 3,     /* numbers: unit scale, limit, 1 for a substrate grid or 0 */
-    HEDDLEPLUME_PLACE_LEN = 4,    /* numbers: face i j k */
-    HEDDLEPLUME_CROSS_LEN = 5,    /* numbers: face i j k, and an enum heddleplume_overage */
-    HEDDLEPLUME_SETTLE_LEN = 5,   /* numbers: face i j k, and the number of steps */
-    HEDDLEPLUME_CORNERS_LEN = 19, /* numbers: the grid level, then i j k six times */
-    HEDDLEPLUME_MARKS_LEN = 25,   /* numbers: the count, then face and mark twelve times */
-    HEDDLEPLUME_POINTS_LEN = 24,  /* doubles: x y twelve times */
-    HEDDLEPLUME_ROOT_LEN = 1,     /* doubles: the root */
-    HEDDLEPLUME_VECTORS_LEN = 36  /* doubles: x y z twelve times */
+    HEDDLEPLUME_FRAME_LEN = 180,        /* doubles: centre, u, v of each of the twenty faces */
+    HEDDLEPLUME_VECTOR_LEN = 3,         /* doubles: x y z */
+    HEDDLEPLUME_ROW_LEN = 4,            /* numbers: face i j k */
+    HEDDLEPLUME_LINES_LEN = 8,          /* doubles: x y of from and to, of the first line and then of the second */
+    HEDDLEPLUME_POINT_LEN = 2,          /* doubles: x y */
+    HEDDLEPLUME_COORD_LEN = 3,          /* numbers: i j k */
+    HEDDLEPLUME_GRID_LEN = 3,           /* numbers: unit scale, limit, 1 for a substrate grid or 0 */
+    HEDDLEPLUME_PLACE_LEN = 4,          /* numbers: face i j k */
+    HEDDLEPLUME_CROSS_LEN = 5,          /* numbers: face i j k, and an enum heddleplume_overage */
+    HEDDLEPLUME_SETTLE_LEN = 5,         /* numbers: face i j k, and the number of steps */
+    HEDDLEPLUME_CORNERS_LEN = 19,       /* numbers: the grid level, then i j k six times */
+    HEDDLEPLUME_MARKS_LEN = 25,         /* numbers: the count, then face and mark twelve times */
+    HEDDLEPLUME_POINTS_LEN = 24,        /* doubles: x y twelve times */
+    HEDDLEPLUME_ROOT_LEN = 1,           /* doubles: the root */
+    HEDDLEPLUME_VECTORS_LEN = 36,       /* doubles: x y z twelve times */
+    HEDDLEPLUME_REGION_RECORD_LEN = 16, /* bytes: the numbers face i j k */
+    HEDDLEPLUME_REGION_TAIL_LEN = 88,   /* bytes: the numbers where the twenty faces begin, the level and the count */
+    HEDDLEPLUME_REGION_FACTS_LEN = 2    /* numbers: the level and the count */
 };
 
 /* The maps that heddleplume_map takes. */
@@ -319,6 +328,53 @@ uint32_t heddleplume_hexagon_sphere(const double *frame, size_t frame_len, uint3
 uint32_t heddleplume_pentagon_sphere(const double *frame, size_t frame_len, uint32_t face, uint32_t i, uint32_t j, uint32_t k,
                                      uint32_t level, uint32_t start, uint32_t length, uint32_t *marks, size_t marks_len, double *points,
                                      size_t points_len);
+
+/* ---- Region lists ---- */
+
+/*
+ * A region list is the bytes of a file: the places of a region at one cell level, and an index at its tail. All its numbers have 32 bits,
+ * the lowest byte first.
+ *
+ * - First the records, 16 bytes each: face i j k. They are sorted by face, then by i, by j and by k, no place comes twice, and there are
+ *   at most 2^31 - 1 of them.
+ * - Then 88 bytes: twenty record numbers, where each face begins, counted from 0; the level; the number of records. A face with no records
+ *   begins where the next one does, or at the count.
+ *
+ * Places are compared number by number: ask a list only about places at its own level, which a place does not tell, and named from the same
+ * face, as heddleplume_place and heddleplume_batch name them.
+ */
+
+/*
+ * A region list of rows face i j k in the order of the list, as a batch writes them and a sort puts them: rows_len = 4n.
+ * out_len is 88 + 16n, no more and no less.
+ * Writes all of out. Refusals: 2 (rows_len is no multiple of 4, or out_len another), 15 (more than 2^31 - 1 rows; a row that is no place,
+ * such as -6 0 0 0 of a batch; rows that are not in order, or come twice), 4.
+ */
+uint32_t heddleplume_region_write(uint32_t level, const int32_t *rows, size_t rows_len, uint8_t *out, size_t out_len);
+
+/*
+ * The full check of a region list: its length, every record and the tail. Ask it once when a file is opened.
+ * Writes out[0..1]: level and count. Refusals: 2, 15.
+ */
+uint32_t heddleplume_region_check(const uint8_t *list, size_t list_len, uint32_t *out, size_t out_len);
+
+/*
+ * A record of a region list, by its number, from 0 on. It is given as it stands in the list: a place, if the list has passed its check.
+ * Writes out[0..3]: face i j k. Refusals: 2, 15 (list_len is below 88 or not 88 + 16 times the count, or the count is above 2^31 - 1;
+ * nothing else of the list is tested), 5.
+ */
+uint32_t heddleplume_region_record(const uint8_t *list, size_t list_len, uint32_t number, uint32_t *out, size_t out_len);
+
+/*
+ * Whether a place is in a region: the quick question. It looks only between the start of the place's face and that of the next, for face
+ * 19 the count, and halves what lies between. On a list that has passed heddleplume_region_check the answer is that of reading every
+ * record. Of any other list it tests only the length and the two starts, and of its answers but 15 nothing is claimed: so check a file
+ * when you open it.
+ * Writes out[0]: 1 yes, 0 no. Refusals: 2, 15 (the length, as for heddleplume_region_record; or the two starts are out of order or past
+ * the count, which is not asked if the face is above 19), 3, 10.
+ */
+uint32_t heddleplume_region_has(const uint8_t *list, size_t list_len, uint32_t face, uint32_t i, uint32_t j, uint32_t k, uint32_t *out,
+                                size_t out_len);
 
 #ifdef __cplusplus
 }

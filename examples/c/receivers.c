@@ -21,7 +21,7 @@ static const char *name_of(uint32_t refusal)
 {
     static const char *const NAMES[] = {
         "answered", "BadFrame", "BadRows",    "BadFace",   "BadLevel",    "BadRange",   "BadNumber", "OffSphere",
-        "Behind",   "TooFar",   "NotReduced", "OutOfFace", "NotAdjacent", "NoCrossing", "BadLine",
+        "Behind",   "TooFar",   "NotReduced", "OutOfFace", "NotAdjacent", "NoCrossing", "BadLine",   "BadList",
     };
     return refusal < sizeof NAMES / sizeof NAMES[0] ? NAMES[refusal] : "no refusal of this library";
 }

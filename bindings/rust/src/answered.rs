@@ -36,8 +36,8 @@ mod tests {
     }
 
     #[test]
-    #[should_panic(expected = "returned 15, which is no refusal")]
+    #[should_panic(expected = "returned 16, which is no refusal")]
     fn a_number_that_no_library_of_ours_returns() {
-        let _ = answered(15);
+        let _ = answered(16);
     }
 }

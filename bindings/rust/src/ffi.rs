@@ -34,6 +34,10 @@ mod c {
         pub fn heddleplume_sphere(frame: *const f64, frame_len: usize, face: u32, level: u32, x: f64, y: f64, out: *mut f64, out_len: usize) -> u32;
         pub fn heddleplume_hexagon_sphere(frame: *const f64, frame_len: usize, face: u32, i: u32, j: u32, k: u32, level: u32, start: u32, length: u32, marks: *mut u32, marks_len: usize, points: *mut f64, points_len: usize) -> u32;
         pub fn heddleplume_pentagon_sphere(frame: *const f64, frame_len: usize, face: u32, i: u32, j: u32, k: u32, level: u32, start: u32, length: u32, marks: *mut u32, marks_len: usize, points: *mut f64, points_len: usize) -> u32;
+        pub fn heddleplume_region_write(level: u32, rows: *const i32, rows_len: usize, out: *mut u8, out_len: usize) -> u32;
+        pub fn heddleplume_region_check(list: *const u8, list_len: usize, out: *mut u32, out_len: usize) -> u32;
+        pub fn heddleplume_region_record(list: *const u8, list_len: usize, number: u32, out: *mut u32, out_len: usize) -> u32;
+        pub fn heddleplume_region_has(list: *const u8, list_len: usize, face: u32, i: u32, j: u32, k: u32, out: *mut u32, out_len: usize) -> u32;
     }
 }
 
@@ -190,6 +194,26 @@ pub fn pentagon_sphere(frame: &[f64], centre: Four, level: u32, start: u32, leng
     let (points, pointed) = (points.as_mut_ptr(), points.len());
     // SAFETY: three slices, each with its own length.
     unsafe { c::heddleplume_pentagon_sphere(frame, frames, face, i, j, k, level, start, length, marks, marked, points, pointed) }
+}
+
+pub fn region_write(level: u32, rows: &[i32], out: &mut [u8]) -> u32 {
+    // SAFETY: two slices, each with its own length.
+    unsafe { c::heddleplume_region_write(level, rows.as_ptr(), rows.len(), out.as_mut_ptr(), out.len()) }
+}
+
+pub fn region_check(list: &[u8], out: &mut [u32]) -> u32 {
+    // SAFETY: two slices, each with its own length.
+    unsafe { c::heddleplume_region_check(list.as_ptr(), list.len(), out.as_mut_ptr(), out.len()) }
+}
+
+pub fn region_record(list: &[u8], number: u32, out: &mut [u32]) -> u32 {
+    // SAFETY: two slices, each with its own length.
+    unsafe { c::heddleplume_region_record(list.as_ptr(), list.len(), number, out.as_mut_ptr(), out.len()) }
+}
+
+pub fn region_has(list: &[u8], [face, i, j, k]: Four, out: &mut [u32]) -> u32 {
+    // SAFETY: two slices, each with its own length.
+    unsafe { c::heddleplume_region_has(list.as_ptr(), list.len(), face, i, j, k, out.as_mut_ptr(), out.len()) }
 }
 
 #[cfg(test)]

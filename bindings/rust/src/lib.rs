@@ -19,7 +19,8 @@
 //! ```
 //!
 //! One vector alone is asked with [`locate`]; [`locate_each`] gives a batch as results of its own. Places move from face to face by the
-//! methods of [`FaceIJK`], which also has the corners and borders of cells, on the plane of a face and on the sphere.
+//! methods of [`FaceIJK`], which also has the corners and borders of cells, on the plane of a face and on the sphere. Whether a place is in
+//! a region, a [`Region`] says, which is read from a file and checked.
 #![deny(unsafe_code, missing_docs)]
 #![warn(clippy::undocumented_unsafe_blocks)]
 
@@ -31,6 +32,7 @@ mod levels;
 mod places;
 mod plane;
 mod refusal;
+pub mod region;
 mod sphere;
 
 pub use borders::{Border, Boundary, BoundaryPoint, Corners, Mark, SphereBoundary, SpherePoint};
@@ -38,4 +40,5 @@ pub use levels::{CellLevel, Grid, GridLevel, Sizes};
 pub use places::{Direction, FaceIJK, Landed, Overage, Rested, face_direction};
 pub use plane::{CoordIJK, GridMap, Vec2d};
 pub use refusal::Refusal;
+pub use region::Region;
 pub use sphere::{Frame, Vec3d, locate, locate_all, locate_each, plane_point, read_row, sphere_point, square_root};

@@ -2,7 +2,8 @@
 use std::error::Error;
 use std::fmt;
 
-/// Why a question was refused; its number is that of document 01. Of several that apply the library gives the smallest.
+/// Why a question was refused; its number is that of documents 01 and 02. Of several that apply the library gives the first in this order:
+/// 14, 1, 2, 15, 3, 4, 5, 6, 7, 8, 9, 10, 11, 12, 13. (`<` between two refusals compares their numbers, which is another order.)
 #[derive(Clone, Copy, Debug, PartialEq, Eq, PartialOrd, Ord, Hash)]
 #[repr(u32)]
 pub enum Refusal {
@@ -14,7 +15,7 @@ pub enum Refusal {
     BadFace = 3,
     /// A cell level above 15; a grid level that is odd or above 16.
     BadLevel = 4,
-    /// An edge that is none of the three, or a start or length of a border out of range.
+    /// An edge that is none of the three, a start or length of a border out of range, or a record number that is not below the count.
     BadRange = 5,
     /// A NaN or an infinity; the root of a number below 0; a point on the sphere whose length is not finite.
     BadNumber = 6,
@@ -32,13 +33,15 @@ pub enum Refusal {
     NotAdjacent = 12,
     /// Two lines do not meet.
     NoCrossing = 13,
-    /// A line of text cannot be read. No function of this crate gives it, but its program does, of a batch's lines.
+    /// A line of text cannot be read. No function of this crate gives it, but its program does, of the lines of a batch or of a region.
     BadLine = 14,
+    /// A region list of a wrong length, order, place or tail; or rows for one that are not in order, come twice or are no places.
+    BadList = 15,
 }
 
 impl Refusal {
-    /// All fourteen, in the order of their numbers.
-    pub const ALL: [Refusal; 14] = [
+    /// All fifteen, in the order of their numbers.
+    pub const ALL: [Refusal; 15] = [
         Refusal::BadFrame,
         Refusal::BadRows,
         Refusal::BadFace,
@@ -53,14 +56,15 @@ impl Refusal {
         Refusal::NotAdjacent,
         Refusal::NoCrossing,
         Refusal::BadLine,
+        Refusal::BadList,
     ];
 
-    /// Its number, 1..14.
+    /// Its number, 1..15.
     pub const fn number(self) -> u32 {
         self as u32
     }
 
-    /// The refusal of a number; none if it is not 1..14.
+    /// The refusal of a number; none if it is not 1..15.
     pub fn from_number(number: u32) -> Option<Refusal> {
         Refusal::ALL.into_iter().find(|refusal| refusal.number() == number)
     }
@@ -72,7 +76,7 @@ impl Refusal {
             Refusal::BadRows => "lend slices of the lengths stated",
             Refusal::BadFace => "pass a face 0..19",
             Refusal::BadLevel => "pass a cell level 0..15 or an even grid level 0..16",
-            Refusal::BadRange => "pass an edge IJ, KI or JK, and a start and length that the cell has",
+            Refusal::BadRange => "pass an edge IJ, KI or JK, a start and length that the cell has, a record number below the count",
             Refusal::BadNumber => "the receiver has no fix, keep its feed",
             Refusal::OffSphere => "divide the vector by its length first",
             Refusal::Behind => "the frame is no icosahedron, load the frame again",
@@ -82,6 +86,7 @@ impl Refusal {
             Refusal::NotAdjacent => "name the pentagon on a face where it lies on the i axis; the border of any other cell is a hexagon's",
             Refusal::NoCrossing => "check the ends of the lines, which are parallel or too large",
             Refusal::BadLine => "write the line as the help shows it",
+            Refusal::BadList => "the list is damaged or not a region list: write it again",
         }
     }
 }

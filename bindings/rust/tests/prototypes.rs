@@ -39,6 +39,9 @@ fn from_c(parameter: &str) -> Vec<String> {
         "uint32_t *" => "*mut u32",
         "uint64_t *" => "*mut u64",
         "int32_t *" => "*mut i32",
+        "const int32_t *" => "*const i32",
+        "uint8_t *" => "*mut u8",
+        "const uint8_t *" => "*const u8",
         "size_t" => "usize",
         "bool" => "bool",
         other => panic!("a type that is not known here: {other}"),
@@ -60,7 +63,7 @@ fn from_rattle(parameter: &str) -> Vec<String> {
 #[test]
 fn header_and_crate_declare_the_same() {
     let header = prototypes(HEADER, "uint32_t", from_c);
-    assert_eq!(header.len(), 27);
+    assert_eq!(header.len(), 31);
     assert_eq!(header, prototypes(OURS, "fn", from_rust));
 }
 

@@ -1,19 +1,19 @@
-//! The refusals as this crate gives them: fourteen with their numbers, and each one that a question can get.
+//! The refusals as this crate gives them: fifteen with their numbers, and each one that a question can get.
 use std::error::Error;
 
 use heddleplume::{CellLevel, CoordIJK, Direction, FaceIJK, Frame, Grid, GridLevel, Mark, Refusal, Vec2d, Vec3d};
 use heddleplume::{face_direction, locate, locate_all, locate_each, plane_point, read_row, sphere_point, square_root};
 
 #[test]
-fn fourteen_with_their_numbers() {
+fn fifteen_with_their_numbers() {
     let numbers: Vec<u32> = Refusal::ALL.iter().map(|refusal| refusal.number()).collect();
-    assert_eq!(numbers, (1..=14).collect::<Vec<u32>>());
+    assert_eq!(numbers, (1..=15).collect::<Vec<u32>>());
     for refusal in Refusal::ALL {
         assert_eq!(Refusal::from_number(refusal.number()), Some(refusal));
         let said = refusal.to_string();
         assert!(said.starts_with(&format!("refused {} {refusal:?}: ", refusal.number())) && said.ends_with(refusal.advice()));
     }
-    for number in [0, 15, u32::MAX] {
+    for number in [0, 16, u32::MAX] {
         assert_eq!(Refusal::from_number(number), None);
     }
     let error: Box<dyn Error> = Refusal::OffSphere.into();
@@ -184,7 +184,7 @@ fn a_refused_batch_keeps_its_rows() {
 
 #[test]
 fn rows_that_no_batch_writes() {
-    for row in [[-15, 0, 0, 0], [i32::MIN, 0, 0, 0], [-6, 0, 0, 1], [20, 0, 0, 0], [7; 4], [0, -1, 0, 0]] {
+    for row in [[-16, 0, 0, 0], [i32::MIN, 0, 0, 0], [-6, 0, 0, 1], [20, 0, 0, 0], [7; 4], [0, -1, 0, 0]] {
         assert_eq!(read_row(row), None, "{row:?}");
     }
     assert_eq!(read_row([19, 0, 5, 6]), Some(Ok(FaceIJK::new(19, 0, 5, 6))));

@@ -19,7 +19,7 @@ use Rattle.boundary.specs.Corners.{cellReasons}
 use Rattle.boundary.specs.AsWalked.{cellVerdict}
 use Rattle.boundary.specs.Boundaries.{orElse, badRange, outOfFace, boundaryReasons, askedShape, verdictTo, turnsFor, boundaryVerdict, boundaryPoints, noPoint, roomWith, padded, pointsValues, boundaryValues, boundaryReply}
 use Rattle.boundary.proofs.Asked.{asked}
-use Rattle.boundary.proofs.Smallest.{both-fine}
+use Rattle.boundary.proofs.Foremost.{both-fine}
 use Rattle.boundary.proofs.Verdicts.{first-append, ranged}
 use Rattle.boundary.proofs.Refusing.{at-most-twelve}
 use Rattle.globe.specs.declared.SpherePoint.{SpherePoint}

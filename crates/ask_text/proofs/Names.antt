@@ -17,13 +17,13 @@ past-end (x ∷ l) (suc n) d h = past-end l n d (omega arith)
 pub above : (k n : ℕ) → k ≤ n → (n ≡ k → ⊥) → suc k ≤ n
 above k n h ne = omega arith
 
--- from 14 on all have one name
-pub last-name : (n : ℕ) → 14 ≤ n → nameOf n ≡ text "BadLine"
+-- from 15 on all have one name
+pub last-name : (n : ℕ) → 15 ≤ n → nameOf n ≡ text "BadList"
 unfolding nameOf
 last-name n h =
-    elim (decLt (n - 1) 14) [
-      | yes few ↦ let e : n - 1 ≡ 13 = omega arith in rw e refl
-      | no many ↦ past-end names (n - 1) (text "BadLine") (omega arith)
+    elim (decLt (n - 1) 15) [
+      | yes few ↦ let e : n - 1 ≡ 14 = omega arith in rw e refl
+      | no many ↦ past-end names (n - 1) (text "BadList") (omega arith)
     ]
 
 -- a name has at most 11 bytes
@@ -31,7 +31,7 @@ abbrev Short : List (List ℕ) → Type 0
 Short [] = Unit {0}
 Short (x ∷ l) = (length x ≤ 11) × Short l
 
-short : (l : List (List ℕ)) → Short l → (n : ℕ) → length (getD l n (text "BadLine")) ≤ 11
+short : (l : List (List ℕ)) → Short l → (n : ℕ) → length (getD l n (text "BadList")) ≤ 11
 short [] h n = omega arith
 short (x ∷ l) h zero = h .0
 short (x ∷ l) h (suc n) = short l (h .1) n
@@ -41,4 +41,4 @@ unfolding nameOf
 name-short n = short names all (n - 1)
   where
     all : Short names
-    all = (omega arith, (omega arith, (omega arith, (omega arith, (omega arith, (omega arith, (omega arith, (omega arith, (omega arith, (omega arith, (omega arith, (omega arith, (omega arith, (omega arith, tt))))))))))))))
+    all = (omega arith, (omega arith, (omega arith, (omega arith, (omega arith, (omega arith, (omega arith, (omega arith, (omega arith, (omega arith, (omega arith, (omega arith, (omega arith, (omega arith, (omega arith, tt)))))))))))))))

@@ -48,11 +48,12 @@ names =
     text "NotAdjacent" ∷
     text "NoCrossing" ∷
     text "BadLine" ∷
+    text "BadList" ∷
     []
 
 -- a number that no refusal has gets the last name
 unfoldable pub nameOf : ℕ → List ℕ
-nameOf n = getD names (n - 1) (text "BadLine")
+nameOf n = getD names (n - 1) (text "BadList")
 
 -- a refusal is its number and its name
 unfoldable pub refusedText : ℕ → List ℕ

@@ -68,7 +68,8 @@ fn put_name(buf: &mut [u8], at: usize, number: u32) -> usize
         11 => text::put_word(buf, at, b"OutOfFace"),
         12 => text::put_word(buf, at, b"NotAdjacent"),
         13 => text::put_word(buf, at, b"NoCrossing"),
-        _ => text::put_word(buf, at, b"BadLine"),
+        14 => text::put_word(buf, at, b"BadLine"),
+        _ => text::put_word(buf, at, b"BadList"),
     }
 }
 

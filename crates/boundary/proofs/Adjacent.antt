@@ -29,7 +29,7 @@ use Rattle.boundary.specs.declared.Shape.{Shape}
 use Rattle.boundary.specs.Landing.{substrateOf, cornerPlace, landFrom, vertexOf, landAt}
 use Rattle.boundary.specs.CrossingPoints.{awayFace, crossingBetween, beforeAt}
 use Rattle.boundary.specs.Boundaries.{askedShape, turnsFor, boundaryVerdict}
-use Rattle.boundary.proofs.Smallest.{tests-below, one-refused}
+use Rattle.boundary.proofs.Foremost.{tests-below, one-refused}
 use Rattle.boundary.proofs.CrossingRefusals.{Fair, none, either, other, fair-hexagon, allowed}
 use Rattle.boundary.proofs.CornerFaces.{asked-fit}
 

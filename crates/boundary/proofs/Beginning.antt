@@ -21,7 +21,7 @@ use Rattle.boundary.specs.Corners.{cellReasons}
 use Rattle.boundary.specs.AsWalked.{cellVerdict}
 use Rattle.boundary.specs.Boundaries.{pointsIn, pointsTo, orElse, verdictTo, turnsFor, badRange, outOfFace, boundaryReasons, askedShape, boundaryVerdict, boundaryPoints}
 use Rattle.boundary.proofs.Asked.{asked}
-use Rattle.boundary.proofs.Smallest.{both-fine}
+use Rattle.boundary.proofs.Foremost.{both-fine}
 use Rattle.boundary.proofs.Verdicts.{first-append, turns-few}
 
 module _ (s : Shape) (k : ℕ) where

@@ -28,7 +28,7 @@ use Rattle.boundary.specs.AsWalked.{cellVerdict, Fit}
 use Rattle.boundary.proofs.Asked.{Asked, asked}
 use Rattle.boundary.proofs.Cells.{solid, substrate-limit}
 use Rattle.boundary.proofs.Landing.{vertex-low, corner-okay, land-reached}
-use Rattle.boundary.proofs.Smallest.{both-fine}
+use Rattle.boundary.proofs.Foremost.{both-fine}
 use Rattle.boundary.proofs.Verdicts.{first-append, ranged}
 use Rattle.boundary.proofs.CrossingRefusals.{Fair, point-there, either, TwelveOrThirteen, fair}
 

@@ -12,7 +12,7 @@ pub mod Walking
 pub mod Inside
 pub mod Verdicts
 pub mod Unique
-pub mod Smallest
+pub mod Foremost
 pub mod Refusing
 pub mod CrossingRefusals
 pub mod CornerFaces

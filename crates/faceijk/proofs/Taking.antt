@@ -1,7 +1,7 @@
 -- What the tests of an entry leave known of a place, and that a step keeps it within what the code's sums ask. Assumes nothing.
-use mathlib.Core.Path.{_≡_, refl, sym, ap, _∙_}
+use mathlib.Core.Path.{_≡_, refl}
 use mathlib.Core.Bool.{Bool, true, false}
-use Prim.Native.Nat.{ℕ, _+_, _*_, _≤_, _<_, max}
+use Prim.Native.Nat.{ℕ, _+_, _≤_, _<_}
 use native.Mathlib.Omega.{arith}
 use lib.Dec.{ltb}
 use borrow.Author.Tests.{ltb-false, le-ltb}
@@ -18,7 +18,7 @@ use Rattle.level.proofs.Taking.{grid-low}
 use Rattle.coordijk.specs.declared.CoordIJK.{CoordIJK}
 use Rattle.coordijk.specs.declared.GridMap.the-variants.{SixthTurnCw}
 use Rattle.coordijk.specs.Maps.{mapOf}
-use Rattle.coordijk.specs.Coordinates.{coord, largestOf, notReduced, reduced, Taken}
+use Rattle.coordijk.specs.Coordinates.{coord, notReduced, reduced}
 use Rattle.coordijk.proofs.Reducing.{reduced-low}
 use Rattle.coordijk.proofs.Taking.{passed as taken-passed, passes}
 use Rattle.coordijk.proofs.Turning.{cw-sums}
@@ -46,6 +46,14 @@ accepted p l b e =
       level = t4 .0;
       edge = t5 .0;
     }
+
+-- a place that passes is taken
+pub fine-okay : (p : Place) → placeVerdict p ≡ Fine → Okay p
+fine-okay p e =
+    let t3 = passed (badFace (p .face)) BadFace _ e in
+    let t10 = passed (notReduced (coordOf p)) NotReduced _ (t3 .1) in
+    let f = ltb-false 19 (p .face) (t3 .0) in
+    record { on = omega arith; taken = taken-passed (coordOf p) (t10 .0) }
 
 -- the other way round: a place that is taken passes
 pub okay-fine : (p : Place) → Okay p → placeVerdict p ≡ Fine

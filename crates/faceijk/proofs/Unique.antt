@@ -1,13 +1,15 @@
--- Two outcomes of an entry on places that meet one promise coincide, what a caller learns of an answer, and that the smallest refusal is given. Assumes nothing.
+-- Two outcomes of an entry on places that meet one promise coincide, what a caller learns of an answer, and that the foremost refusal is given. Assumes nothing.
 use mathlib.Core.Path.{_≡_, refl, sym, ap, _∙_}
-use mathlib.Core.Bool.{Bool}
+use mathlib.Core.Bool.{Bool, true}
 use Prim.Native.Nat.{ℕ, zero, suc}
 use native.Mathlib.Omega.{arith}
+use lib.Dec.{eqb}
+use borrow.Author.Tests.{eq-eqb, eqb-true}
 use Rattle.reply.specs.declared.Verdict.the-variants.{Fine}
 use Rattle.reply.specs.Replies.{answer}
-use Rattle.reply.specs.Order.{Smallest}
-use Rattle.reply.proofs.Entries.{values, answer-or-refusal, same-refusal, answered}
-use Rattle.reply.proofs.Smallest.{smallest}
+use Rattle.reply.specs.Order.{Foremost}
+use Rattle.reply.proofs.Entries.{both, values, answer-or-refusal, same-refusal, answered}
+use Rattle.reply.proofs.Foremost.{foremost}
 use Rattle.level.specs.Levels.{unitOf, gridOf}
 use Rattle.faceijk.specs.declared.Place.{Place}
 use Rattle.faceijk.specs.declared.Overage.{Overage}
@@ -20,7 +22,7 @@ use Rattle.faceijk.specs.declared.Moved.{Moved}
 use Rattle.faceijk.specs.declared.Crossed.{Crossed}
 use Rattle.faceijk.specs.declared.Settled.{Settled}
 use Rattle.faceijk.specs.declared.Directed.{Directed}
-use Rattle.faceijk.specs.Places.{placeValues, QAt, placeReasons, onGridReasons, overEdgeReasons, placeVerdict, onGridVerdict, overEdgeVerdict}
+use Rattle.faceijk.specs.Places.{placeValues, samePlace, QAt, placeReasons, onGridReasons, overEdgeReasons, placeVerdict, onGridVerdict, overEdgeVerdict}
 use Rattle.faceijk.specs.Faces.{directionNumber}
 use Rattle.faceijk.specs.Steps.{stepOf}
 use Rattle.faceijk.specs.Crossing.{crossingOf, settleFrom}
@@ -31,6 +33,17 @@ place-from f i j k = λ n. record { face = f n; i = i n; j = j n; k = k n }
 
 pub same-place : (p q : Place) → placeValues p ≡ placeValues q → p ≡ q
 same-place p q v = place-from (cc) (cc) (cc) (cc)
+
+-- places that the test of sameness finds equal are equal, and a place is found equal to itself
+pub found-same : (p q : Place) → samePlace p q ≡ true → p ≡ q
+found-same p q e =
+    let a = both _ (eqb (p .k) (q .k)) e in
+    let b = both _ (eqb (p .j) (q .j)) (a .0) in
+    let c = both (eqb (p .face) (q .face)) (eqb (p .i) (q .i)) (b .0) in
+    place-from (eqb-true _ _ (c .0)) (eqb-true _ _ (c .1)) (eqb-true _ _ (b .1)) (eqb-true _ _ (a .1))
+
+pub same-itself : (p : Place) → samePlace p p ≡ true
+same-itself p = simp (eq-eqb (p .face) (p .face) refl, eq-eqb (p .i) (p .i) refl, eq-eqb (p .j) (p .j) refl, eq-eqb (p .k) (p .k) refl)
 
 -- the enums read back from their numbers
 overage : ℕ → Overage
@@ -119,12 +132,12 @@ module _ (p : Place) (l : ℕ) (substrate : Bool) where
       let t = answered 5 (onGridVerdict p l) (restedValues s) _ (ap saidSettled (sym is) ∙ h) in
       (t .0, same-rested s _ (t .1))
 
--- the refusal given is the one with the smallest number
-pub place-smallest : (p : Place) → Smallest (placeReasons p) (placeVerdict p)
-place-smallest p = smallest 0 (placeReasons p) (omega arith, (omega arith, tt))
+-- the refusal given is the foremost
+pub place-foremost : (p : Place) → Foremost (placeReasons p) (placeVerdict p)
+place-foremost p = foremost 0 (placeReasons p) (omega arith, (omega arith, tt))
 
-pub on-grid-smallest : (p : Place) (l : ℕ) → Smallest (onGridReasons p l) (onGridVerdict p l)
-on-grid-smallest p l = smallest 0 (onGridReasons p l) (omega arith, (omega arith, (omega arith, tt)))
+pub on-grid-foremost : (p : Place) (l : ℕ) → Foremost (onGridReasons p l) (onGridVerdict p l)
+on-grid-foremost p l = foremost 0 (onGridReasons p l) (omega arith, (omega arith, (omega arith, tt)))
 
-pub over-edge-smallest : (p : Place) (l : ℕ) (b : Bool) → Smallest (overEdgeReasons p l b) (overEdgeVerdict p l b)
-over-edge-smallest p l b = smallest 0 (overEdgeReasons p l b) (omega arith, (omega arith, (omega arith, (omega arith, tt))))
+pub over-edge-foremost : (p : Place) (l : ℕ) (b : Bool) → Foremost (overEdgeReasons p l b) (overEdgeVerdict p l b)
+over-edge-foremost p l b = foremost 0 (overEdgeReasons p l b) (omega arith, (omega arith, (omega arith, (omega arith, tt))))

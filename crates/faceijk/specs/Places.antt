@@ -1,9 +1,8 @@
 -- A place of document 01: a face 0..19 and coordinates i, j, k; and which places an entry takes.
-use mathlib.Core.Path.{_≡_}
-use mathlib.Core.Bool.{Bool, _||_}
+use mathlib.Core.Bool.{Bool, _&&_}
 use mathlib.Core.List.{List, [], _∷_}
 use Prim.Native.Nat.{ℕ, _≤_, _<_}
-use lib.Dec.{ltb}
+use lib.Dec.{eqb, ltb}
 use Rattle.reply.specs.declared.Verdict.{Verdict}
 use Rattle.reply.specs.declared.Verdict.the-variants.{Fine, Refused}
 use Rattle.reply.specs.declared.Refusal.the-variants.{BadFace, BadLevel, BadRange, NotReduced}
@@ -23,6 +22,10 @@ coordOf p = coord (p .i) (p .j) (p .k)
 
 abbrev pub placeValues : Place → List ℕ
 placeValues p = p .face ∷ p .i ∷ p .j ∷ p .k ∷ []
+
+-- one face and one coordinate each
+abbrev pub samePlace : Place → Place → Bool
+samePlace p q = eqb (p .face) (q .face) && eqb (p .i) (q .i) && eqb (p .j) (q .j) && eqb (p .k) (q .k)
 
 -- s, the coordinate sum, and Q, the squared distance from the face's centre
 abbrev pub sumAt : Place → ℕ

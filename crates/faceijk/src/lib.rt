@@ -4,7 +4,7 @@ ghost use Prim.Native.Nat.{_<_, _≤_};
 ghost use Rattle.reply.specs.Replies.{verdictNumber};
 ghost use Rattle.level.specs.Levels.{Sound, gridOf};
 ghost use Rattle.coordijk.specs.Coordinates.{reduced};
-ghost use Rattle.faceijk.specs.Places.{place, coordOf, sumAt, QAt, Okay, Ready, placeVerdict, edgeVerdict, overEdgeVerdict, onGridOf};
+ghost use Rattle.faceijk.specs.Places.{place, coordOf, samePlace, sumAt, QAt, Okay, Ready, placeVerdict, edgeVerdict, overEdgeVerdict, onGridOf};
 ghost use Rattle.faceijk.specs.Faces.{faceOver, wordOver, dirTo, directionNumber};
 ghost use Rattle.faceijk.specs.Steps.{polar, stepOf};
 ghost use Rattle.faceijk.specs.Crossing.{edgeOut, aboutCorner, startOut, stepOut, landed, onEdge, crossingOf, settleFrom};
@@ -229,6 +229,12 @@ impl Place {
         ensures { λ r. ⌜ r ≡ coordOf self ⌝ }
     {
         CoordIJK::new(self.i, self.j, self.k)
+    }
+
+    pub fn is_same(self, other: Place) -> bool
+        ensures { λ r. ⌜ r ≡ samePlace self other ⌝ }
+    {
+        (self.face == other.face) & (self.i == other.i) & (self.j == other.j) & (self.k == other.k)
     }
 
     // The least coordinate taken from all three; any place is taken, and its face stays.

@@ -24,7 +24,7 @@ use Rattle.boundary.specs.declared.BoundaryPoint.{BoundaryPoint}
 use Rattle.boundary.specs.declared.Before.{Before}
 use Rattle.boundary.specs.declared.Before.the-variants.{Nothing, Point, Refused}
 use Rattle.boundary.specs.Boundaries.{turnsFor, askedShape, boundaryPoints}
-use Rattle.boundary.proofs.Smallest.{both-fine}
+use Rattle.boundary.proofs.Foremost.{both-fine}
 use Rattle.globe.specs.declared.SpherePoint.{SpherePoint}
 use Rattle.globe.specs.Points.{vector, scaleOf, alongOf, reachedOf, sphereOf, badPoint, behind, liftVerdict, sphereVerdict}
 use Rattle.globe.specs.Boundaries.{imageOf, imageVerdict, neededVerdict, neededTo, firstRefused, globeReasons, globeVerdict, globePoints}

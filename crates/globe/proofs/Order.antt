@@ -1,4 +1,4 @@
--- The refusal that an entry's tests give is the smallest that applies; a boundary's points refuse it after them, by 6, 8, 12 or 13; 9 is never given.
+-- The refusal that an entry's tests give is the foremost that applies; a boundary's points refuse it after them, by 6, 8, 12 or 13; 9 is never given.
 -- Assumes nothing.
 use mathlib.Core.Path.{_≡_, refl, sym, ap, _∙_, subst}
 use mathlib.Core.Logic.{_⊎_, inl, inr}
@@ -12,8 +12,8 @@ use Rattle.reply.specs.declared.Refusal.the-variants.{BadNumber, Behind}
 use Rattle.reply.specs.declared.Verdict.{Verdict}
 use Rattle.reply.specs.declared.Verdict.the-variants.{Fine}
 use Rattle.reply.specs.Replies.{numberOf, Reason, first, reply}
-use Rattle.reply.specs.Order.{Each, Smallest}
-use Rattle.reply.proofs.Smallest.{smallest}
+use Rattle.reply.specs.Order.{Each, Foremost}
+use Rattle.reply.proofs.Foremost.{foremost}
 use Rattle.level.specs.Levels.{raisedOf}
 use Rattle.faceijk.specs.declared.Place.{Place}
 use Rattle.vec2d.specs.declared.Vec2d.{Vec2d}
@@ -31,14 +31,14 @@ use Rattle.globe.specs.Points.{scaleOf, liftReasons, sphereReasons, sphe
 use Rattle.globe.specs.Boundaries.{imageVerdict, neededVerdict, cornerIn, neededTo, firstRefused, globeReasons, globeVerdict, globeReply}
 use Rattle.globe.proofs.Taking.{refused-append}
 
--- The entry of one point gives the smallest number of 1, 3, 4, 6 and 8 that applies.
-pub sphere-smallest : (s : List Float) (f l : ℕ) (p : Vec2d) → Smallest (sphereReasons s f l p) (sphereVerdict s f l p)
-sphere-smallest s f l p = smallest 0 (sphereReasons s f l p) (omega arith, (omega arith, (omega arith, (omega arith, (omega arith, tt)))))
+-- The entry of one point gives the foremost of 1, 3, 4, 6 and 8 that applies.
+pub sphere-foremost : (s : List Float) (f l : ℕ) (p : Vec2d) → Foremost (sphereReasons s f l p) (sphereVerdict s f l p)
+sphere-foremost s f l p = foremost 0 (sphereReasons s f l p) (omega arith, (omega arith, (omega arith, (omega arith, (omega arith, tt)))))
 
--- The tests of a boundary on the sphere give the smallest number of 1, 3, 4, 5, 10 and 11 that applies.
-pub globe-smallest : (sides : ℕ) (s : List Float) (p : Place) (l start n : ℕ) → Smallest (globeReasons sides s p l start n) (first (globeReasons sides s p l start n))
-globe-smallest sides s p l start n =
-    smallest 0 (globeReasons sides s p l start n) (omega arith, (omega arith, (omega arith, (omega arith, (omega arith, (omega arith, tt))))))
+-- The tests of a boundary on the sphere give the foremost of 1, 3, 4, 5, 10 and 11 that applies.
+pub globe-foremost : (sides : ℕ) (s : List Float) (p : Place) (l start n : ℕ) → Foremost (globeReasons sides s p l start n) (first (globeReasons sides s p l start n))
+globe-foremost sides s p l start n =
+    foremost 0 (globeReasons sides s p l start n) (omega arith, (omega arith, (omega arith, (omega arith, (omega arith, (omega arith, tt))))))
 
 -- ---- which refusals there are
 

@@ -29,7 +29,7 @@ use Rattle.boundary.specs.CrossingPoints.{beforeAt}
 use Rattle.boundary.specs.Boundaries.{pointsBefore, cornersIn, pointsIn, pointsTo, crossingsTo, orElse, verdictBefore, verdictTo, turnsFor, boundaryReasons, askedShape, boundaryVerdict, boundaryPoints, roomWith}
 use Rattle.boundary.specs.AsWalked.{Fit}
 use Rattle.boundary.proofs.Landing.{land-okay}
-use Rattle.boundary.proofs.Smallest.{one-refused, both-fine}
+use Rattle.boundary.proofs.Foremost.{one-refused, both-fine}
 use Rattle.boundary.proofs.Refusing.{room-after, count-law, at-most-twelve}
 use Rattle.boundary.proofs.CrossingRefusals.{either, TwelveOrThirteen, twelve-or-thirteen}
 use Rattle.boundary.proofs.CornerFaces.{asked-fit}

@@ -18,12 +18,15 @@ ghost use Rattle.root.specs.Root.{rootReply};
 ghost use Rattle.globe.specs.Points.{sphereReply};
 ghost use Rattle.globe.specs.Boundaries.{globeReply};
 ghost use Rattle.frame.specs.Default.{defaultFrame};
+ghost use Rattle.region.specs.Entries.{readReply, hasReply};
+ghost use Rattle.region_check.specs.Checks.{checkReply};
 ghost use Rattle.lent.specs.Lent.{Gives, GivesFramed, bitsOf, at};
 ghost use Rattle.lent_grid.specs.Lines.{linesReply};
 ghost use Rattle.lent_grid.specs.Numbered.{numberedReply};
 ghost use Rattle.lent_places.specs.Places.{vec, GivesNearest, GivesBatch};
 ghost use Rattle.lent_borders.specs.Borders.{GivesBoundary};
 ghost use Rattle.lent_globe.specs.Globes.{GivesGlobe};
+ghost use Rattle.lent_regions.specs.Regions.{GivesList};
 use reply::Refusal;
 
 // A cell level to its grid level.
@@ -398,4 +401,43 @@ pub extern "C" fn heddleplume_frame(out: &mut [f64]) -> u32
     let frame = frame::default_frame();
     lent::put_doubles(out, 0, &frame);
     0
+}
+
+// A region list of sorted rows, four numbers each; the output has 16 bytes a row and 88 more.
+#[no_mangle]
+pub extern "C" fn heddleplume_region_write(level: u32, rows: &[i32], out: &mut [u8]) -> u32
+    ensures { λ r. ⌜ GivesList level (now (rows .entry)) (now (out .entry)) (now (out .exit)) r ⌝ }
+{
+    lent_regions::write(level, rows, out)
+}
+
+// The full check of a region list: its level, and how many records it has.
+#[no_mangle]
+pub extern "C" fn heddleplume_region_check(list: &[u8], out: &mut [u32]) -> u32
+    ensures { λ r. ⌜ Gives 2 (checkReply (now (list .entry))) (now (out .entry)) (now (out .exit)) r ⌝ }
+{
+    lent_regions::check(list, out)
+}
+
+// The record of a region list with a number: face, i, j, k.
+#[no_mangle]
+pub extern "C" fn heddleplume_region_record(list: &[u8], number: u32, out: &mut [u32]) -> u32
+    ensures { λ r. ⌜ Gives 4 (readReply (now (list .entry)) number) (now (out .entry)) (now (out .exit)) r ⌝ }
+{
+    lent_regions::record(list, number, out)
+}
+
+// Whether a place is in a region list: 1 yes, 0 no.
+#[no_mangle]
+pub extern "C" fn heddleplume_region_has(
+    list: &[u8],
+    face: u32,
+    i: u32,
+    j: u32,
+    k: u32,
+    out: &mut [u32],
+) -> u32
+    ensures { λ r. ⌜ Gives 1 (hasReply (now (list .entry)) (at face i j k)) (now (out .entry)) (now (out .exit)) r ⌝ }
+{
+    lent_regions::has(list, face, i, j, k, out)
 }

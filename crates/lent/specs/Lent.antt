@@ -23,7 +23,7 @@ held k n vs out = pick (eqb k 0) (vs ++ drop n out) out
 abbrev pub numberFor : Bool → Reply → ℕ
 numberFor short r = pick short (numberOf BadRows) (r .number)
 
--- the same where a frame is lent: a bad frame has the smaller number, 1
+-- the same where a frame is lent: a bad frame comes first, 1
 abbrev pub framedNumber : Bool → Bool → Reply → ℕ
 framedNumber bad short r = pick bad (numberOf BadFrame) (numberFor short r)
 

@@ -23,7 +23,7 @@ use Rattle.vec3d.specs.declared.Nearest.{Nearest}
 use Rattle.vec3d.specs.Vectors.{vectorVerdict}
 use Rattle.vec3d.specs.Frame.{badFrame}
 use Rattle.vec3d.specs.Nearest.{nearestTo, nearestValues, nearestReply}
-use Rattle.locate.specs.Rows.{countTo}
+use Rattle.words.specs.Rows.{countTo}
 use Rattle.locate.specs.Batch.{refusedAt, badRows, Outcome, batchOutcome}
 use Rattle.lent_places.specs.Places.{GivesNearest, GivesBatch}
 

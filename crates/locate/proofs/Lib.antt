@@ -1,7 +1,6 @@
 -- Laws of `locate`: places given out, vectors that pass, rows of a batch one by one, unique answers.
 pub mod Entering
 pub mod Signed
-pub mod Placing
 pub mod Giving
 pub mod UnitVectors
 pub mod Near

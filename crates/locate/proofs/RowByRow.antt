@@ -1,25 +1,21 @@
 -- What a batch leaves in the lent rows, row by row. Assumes nothing.
 use mathlib.Core.Path.{_≡_, refl, sym, ap, _∙_}
-use mathlib.Core.Bool.{Bool, true, false}
-use mathlib.Core.List.{List, [], _∷_, _++_, append-nil}
+use mathlib.Core.List.{List, [], _++_}
 use Prim.Native.Nat.{ℕ, zero, suc, _+_, _*_, _/_, _≤_, _<_}
-use native.Mathlib.Nat.{le-refl, le-of-eq}
 use native.Mathlib.Omega.{arith}
 use borrow.Author.Tests.{le-ltb}
 use lib.IntN.{ℤ}
-use lib.ListN.{length, take, drop, take-append-drop, length-append, length-take, length-drop}
+use lib.ListN.{length, take, drop, take-append-drop, length-take, length-drop}
 use lib.Seq.{take-at, drop-at, drop-drop, drop-append-le, take-append-le}
 use lib.Ieee.{Float}
 use Rattle.reply.specs.declared.Verdict.{Verdict}
 use Rattle.reply.specs.declared.Verdict.the-variants.{Fine, Refused}
-use Rattle.reply.specs.declared.Refusal.{Refusal}
-use Rattle.reply.specs.Replies.{Reply}
 use Rattle.vec3d.specs.declared.Vec3d.{Vec3d}
 use Rattle.vec3d.specs.Frame.{vecAt}
 use Rattle.locate.specs.Locating.{Passed, rowReply, locateReply}
-use Rattle.locate.specs.Rows.{rowsTo, countTo, between, oneIf}
+use Rattle.words.specs.Rows.{rowsTo, countTo, between}
 use Rattle.locate.specs.Batch.{rowOf, isRefused, rowAt, refusedAt, batchVerdict, batchRows, rowsBy}
-use Rattle.locate.proofs.Placing.{rows-length, rows-at}
+use Rattle.words.proofs.Placing.{rows-length, rows-at}
 use Rattle.locate.proofs.Writing.{row-length, Ready, ready}
 
 -- with a frame and a level that have passed, a row's reply is the entry's

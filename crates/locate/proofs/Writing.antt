@@ -1,6 +1,6 @@
 -- Rows of a batch: each is four numbers, there is room for them, and what the batch's tests lead to. Assumes nothing.
 use mathlib.Core.Path.{_≡_, refl, sym, _∙_}
-use mathlib.Core.Bool.{Bool, true, false, not, _||_}
+use mathlib.Core.Bool.{false, not, _||_}
 use mathlib.Core.List.{List, [], _∷_}
 use Prim.Native.Nat.{ℕ, _+_, _*_, _/_, _%_, _≤_}
 use native.Mathlib.Omega.{arith}
@@ -20,8 +20,8 @@ use Rattle.vec3d.specs.Frame.{vecAt, badFrame}
 use Rattle.faceijk.specs.declared.Place.{Place}
 use Rattle.faceijk.specs.Places.{placeValues}
 use Rattle.locate.specs.Locating.{Passed, placeOf, rowVerdict}
-use Rattle.locate.specs.Rows.{countTo, between}
-use Rattle.locate.specs.Batch.{rowOf, rowAt, refusedAt, badRows, reasonsFor, batchVerdict, rowsBy, Outcome, batchOutcome}
+use Rattle.words.specs.Rows.{countTo, between}
+use Rattle.locate.specs.Batch.{rowOf, rowAt, refusedAt, badRows, reasonsFor, batchVerdict, rowsBy, batchOutcome}
 use Rattle.locate.proofs.Signed.{number-some}
 
 reply-row : (v : Verdict) (p : Place) → length (rowOf (reply 4 v (placeValues p))) ≡ 4

@@ -22,7 +22,7 @@ use Rattle.locate.specs.declared.Located.{Located}
 use Rattle.locate.specs.declared.Located.the-variants.{Done, Refused}
 use Rattle.locate.specs.declared.Batch.{Batch}
 use Rattle.locate.specs.Locating.{nearFace, rowReply}
-use Rattle.locate.specs.Rows.{countTo, between}
+use Rattle.words.specs.Rows.{countTo, between}
 
 abbrev pub signed : List ℕ → List ℤ
 signed [] = []

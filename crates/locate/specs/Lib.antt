@@ -1,4 +1,3 @@
 -- Definitions of `locate`: the place of a vector, rows, and the batch.
 pub mod Locating
-pub mod Rows
 pub mod Batch

@@ -11,7 +11,7 @@ ghost use Rattle.vec3d.specs.Frame.{badFrame};
 ghost use Rattle.vec2d.specs.Rounding.{roundVerdict, nearestOf};
 ghost use Rattle.faceijk.specs.Places.{place, placeValues, Okay};
 ghost use Rattle.locate.specs.Locating.{nearFace, Passed, Entered, placeOf, frontReasons, saidLocated, rowReply, locateReply};
-ghost use Rattle.locate.specs.Rows.{oneIf, countTo, Filled};
+ghost use Rattle.words.specs.Rows.{oneIf, countTo, Filled};
 ghost use Rattle.locate.specs.Batch.{signed, isRefused, rowOf, cells, Ahead, rowAt, refusedAt, badRows, reasonsFor, saidBatch, batchOutcome, Given};
 use faceijk::Place;
 use level::CellLevel;

@@ -4,15 +4,16 @@ use mathlib.Core.Bool.{Bool, true, false, _||_}
 use Prim.Native.Nat.{ℕ, zero, suc, _≤_, _<_}
 use native.Mathlib.Nat.{not-suc-le-zero}
 use native.Mathlib.Omega.{arith}
-use lib.Dec.{ltb, eqb}
-use borrow.Author.Tests.{ltb-true, ltb-false, eqb-true, eq-eqb}
+use lib.Dec.{ltb}
+use borrow.Author.Tests.{ltb-true, ltb-false}
 use Rattle.reply.specs.Choice.{pick}
-use Rattle.reply.proofs.Entries.{both}
 use Rattle.level.specs.declared.Grid.{Grid}
 use Rattle.level.specs.Levels.{Sound}
 use Rattle.faceijk.specs.declared.Place.{Place}
+use Rattle.faceijk.specs.Places.{samePlace}
+use Rattle.faceijk.proofs.Unique.{found-same, same-itself}
 use Rattle.names.specs.Names.{Reached}
-use Rattle.names.specs.Row.{samePlace, nextName, others, among, sameOf, lower, lowest, firstOf}
+use Rattle.names.specs.Row.{nextName, others, among, sameOf, lower, lowest, firstOf}
 use Rattle.names.proofs.Sorts.{Kind}
 use Rattle.names.proofs.Rows.{nameAt, Along, stop, on, along-trans, along-kind, along-sym, reached-along, along-reached, in-row, one-a-face}
 
@@ -83,21 +84,6 @@ module _ (g : Grid) (sound : Sound g) where
   first-meets {p} {q} k j e =
       along-trans (subst (λ (n : Place). Along g p n) e (first-along g p)) (along-sym g sound j (first-along g q))
 
--- places that the test of sameness finds equal are equal, and a place is found equal to itself
-pub found-same : (p q : Place) → samePlace p q ≡ true → p ≡ q
-found-same p q e =
-    let a = both _ (eqb (p .k) (q .k)) e in
-    let b = both _ (eqb (p .j) (q .j)) (a .0) in
-    let c = both (eqb (p .face) (q .face)) (eqb (p .i) (q .i)) (b .0) in
-    let f = eqb-true _ _ (c .0) in
-    let i = eqb-true _ _ (c .1) in
-    let j = eqb-true _ _ (b .1) in
-    let k = eqb-true _ _ (a .1) in
-    λ n. record { face = f n; i = i n; j = j n; k = k n }
-
-itself : (p : Place) → samePlace p p ≡ true
-itself p = simp (eq-eqb (p .face) (p .face) refl, eq-eqb (p .i) (p .i) refl, eq-eqb (p .j) (p .j) refl, eq-eqb (p .k) (p .k) refl)
-
 or-true : (a : Bool) → (a || true) ≡ true
 or-true true = refl
 or-true false = refl
@@ -114,9 +100,9 @@ module _ (g : Grid) where
 
   among-at : (n j : ℕ) (p q : Place) → j ≤ n → q ≡ nameAt j g p → among n g p q ≡ true
   unfolding among nameAt
-  among-at zero zero p q l e = rw e (itself p)
+  among-at zero zero p q l e = rw e (same-itself p)
   among-at zero (suc j) p q l e = absurd (not-suc-le-zero l)
-  among-at (suc n) zero p q l e = simp (ap (samePlace p) e ∙ itself p)
+  among-at (suc n) zero p q l e = simp (ap (samePlace p) e ∙ same-itself p)
   among-at (suc n) (suc j) p q l e = simp (among-at n j (nextName g p) q (omega arith) e) (or-true (samePlace p q))
 
 module _ (g : Grid) (sound : Sound g) {p q : Place} (k : Kind g p) where

@@ -6,7 +6,8 @@ use native.Mathlib.Nat.{not-suc-le-zero}
 use native.Mathlib.Omega.{arith}
 use Rattle.level.specs.declared.Grid.{Grid}
 use Rattle.faceijk.specs.declared.Place.{Place}
-use Rattle.names.specs.Row.{samePlace, nextName, others, among, sameOf, lower, lowest, firstOf}
+use Rattle.faceijk.specs.Places.{samePlace}
+use Rattle.names.specs.Row.{nextName, others, among, sameOf, lower, lowest, firstOf}
 
 -- the code's loop that compares: one name more, the start, and the end
 either : (a b c : Bool) → ((a || b) || c) ≡ (a || (b || c))

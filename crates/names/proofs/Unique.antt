@@ -1,12 +1,12 @@
--- Two outcomes of `same_corner` that meet one promise coincide (of `first_name`: `faceijk`'s `one-moved`), and the smallest refusal is given. Assumes nothing.
+-- Two outcomes of `same_corner` that meet one promise coincide (of `first_name`: `faceijk`'s `one-moved`), and the foremost refusal is given. Assumes nothing.
 use mathlib.Core.Path.{_≡_, refl, sym, ap}
 use mathlib.Core.List.{[], _∷_}
 use Prim.Native.Nat.{ℕ}
 use native.Mathlib.Omega.{arith}
 use Rattle.reply.specs.Replies.{answer}
-use Rattle.reply.specs.Order.{Smallest}
+use Rattle.reply.specs.Order.{Foremost}
 use Rattle.reply.proofs.Entries.{values, answer-or-refusal, same-refusal}
-use Rattle.reply.proofs.Smallest.{smallest}
+use Rattle.reply.proofs.Foremost.{foremost}
 use Rattle.faceijk.specs.declared.Place.{Place}
 use Rattle.names.specs.declared.SameCorner.{SameCorner}
 use Rattle.names.specs.Entries.{namesReasons, namesVerdict, saidSame}
@@ -28,5 +28,5 @@ one-same (SameCorner.Refused r) SameCorner.Yes e = answer-or-refusal 1 _ r (sym 
 one-same (SameCorner.Refused r) SameCorner.No e = answer-or-refusal 1 _ r (sym e)
 one-same (SameCorner.Refused r) (SameCorner.Refused s) e = ap SameCorner.Refused (same-refusal 1 r s e)
 
-pub names-smallest : (p q : Place) (l : ℕ) → Smallest (namesReasons p q l) (namesVerdict p q l)
-names-smallest p q l = smallest 0 (namesReasons p q l) (omega arith, (omega arith, (omega arith, (omega arith, tt))))
+pub names-foremost : (p q : Place) (l : ℕ) → Foremost (namesReasons p q l) (namesVerdict p q l)
+names-foremost p q l = foremost 0 (namesReasons p q l) (omega arith, (omega arith, (omega arith, (omega arith, tt))))

@@ -1,11 +1,11 @@
 -- How names are found: in a row, each the step of the one before it. The laws (proofs/Laws) say that the row has the names of `Names`, and no other.
-use mathlib.Core.Bool.{Bool, _||_, _&&_}
+use mathlib.Core.Bool.{Bool, _||_}
 use Prim.Native.Nat.{ℕ, zero, suc}
 use lib.Dec.{ltb, eqb}
 use Rattle.reply.specs.Choice.{pick}
 use Rattle.level.specs.declared.Grid.{Grid}
 use Rattle.faceijk.specs.declared.Place.{Place}
-use Rattle.faceijk.specs.Places.{sumAt}
+use Rattle.faceijk.specs.Places.{samePlace, sumAt}
 use Rattle.faceijk.specs.Steps.{stepOf}
 
 -- s = m: the point lies on an edge
@@ -26,10 +26,6 @@ faceCorner g p = eqb (p .i) (g .limit) || (eqb (p .j) (g .limit) || eqb (p .k) (
 
 unfoldable pub others : Grid → Place → ℕ
 others g p = pick (atLimit g p) (pick (faceCorner g p) 4 1) 0
-
--- one place, number by number
-abbrev pub samePlace : Place → Place → Bool
-samePlace p q = eqb (p .face) (q .face) && eqb (p .i) (q .i) && eqb (p .j) (q .j) && eqb (p .k) (q .k)
 
 -- whether q is p or one of the n names that follow it
 unfoldable pub among : ℕ → Grid → Place → Place → Bool

@@ -5,7 +5,7 @@ ghost use Rattle.level.specs.Levels.{Sound, gridOf};
 ghost use Rattle.coordijk.specs.Coordinates.{notReduced};
 ghost use Rattle.faceijk.specs.Places.{coordOf, onGridOf};
 ghost use Rattle.faceijk.specs.Entries.{saidMoved};
-ghost use Rattle.names.specs.Row.{atLimit, edgeAt, nextName, others, samePlace, lower, firstOf, sameOf};
+ghost use Rattle.names.specs.Row.{atLimit, edgeAt, nextName, others, lower, firstOf, sameOf};
 ghost use Rattle.names.specs.Entries.{Inside, outOf, insideVerdict, namesVerdict, firstReply, saidSame, sameReply};
 use faceijk::Moved;
 use faceijk::OnGrid;
@@ -89,12 +89,6 @@ fn first_of(p: Place, grid: Grid) -> Place
     best
 }
 
-fn is_same(p: Place, q: Place) -> bool
-    ensures { λ r. ⌜ r ≡ samePlace p q ⌝ }
-{
-    (p.face == q.face) & (p.i == q.i) & (p.j == q.j) & (p.k == q.k)
-}
-
 // Whether q is one of p's names. One row is walked: two first names would be two.
 fn are_same(p: Place, q: Place, grid: Grid) -> bool
     requires { ⌜ Inside grid p × Sound grid ⌝ }
@@ -104,11 +98,11 @@ fn are_same(p: Place, q: Place, grid: Grid) -> bool
     let mut name = p;
     let mut same = false;
     while 0 < more {
-        same = same | is_same(name, q);
+        same = same | name.is_same(q);
         name = next_name(name, grid);
         more -= 1;
     }
-    same | is_same(name, q)
+    same | name.is_same(q)
 }
 
 fn is_unreduced(p: Place) -> bool

@@ -1,14 +1,14 @@
--- The numbered replies of document 01: the numbers, which refusal is given, and what a reply holds.
+-- The numbered replies of the papers: the numbers, which refusal is given, and what a reply holds.
 use mathlib.Core.Bool.{Bool}
 use mathlib.Core.List.{List, [], _∷_}
 use Prim.Native.Nat.{ℕ, zero, suc}
 use Rattle.reply.specs.Choice.{pick}
 use Rattle.reply.specs.declared.Refusal.{Refusal}
-use Rattle.reply.specs.declared.Refusal.the-variants.{BadFrame, BadRows, BadFace, BadLevel, BadRange, BadNumber, OffSphere, Behind, TooFar, NotReduced, OutOfFace, NotAdjacent, NoCrossing, BadLine}
+use Rattle.reply.specs.declared.Refusal.the-variants.{BadFrame, BadRows, BadFace, BadLevel, BadRange, BadNumber, OffSphere, Behind, TooFar, NotReduced, OutOfFace, NotAdjacent, NoCrossing, BadLine, BadList}
 use Rattle.reply.specs.declared.Verdict.{Verdict}
 use Rattle.reply.specs.declared.Verdict.the-variants.{Fine, Refused}
 
--- the table's first column; requests 15 to 18 add their lines at the end
+-- the table's first column; 16 to 18 will stand at the end
 abbrev pub numberOf : Refusal → ℕ
 numberOf BadFrame = 1
 numberOf BadRows = 2
@@ -24,6 +24,7 @@ numberOf OutOfFace = 11
 numberOf NotAdjacent = 12
 numberOf NoCrossing = 13
 numberOf BadLine = 14
+numberOf BadList = 15
 
 -- what the tests of an input found, in the paper's numbers: 0 for nothing
 abbrev pub verdictNumber : Verdict → ℕ
@@ -38,7 +39,7 @@ pub record Reason : Type 0 where
 abbrev pub when : Bool → Refusal → Reason
 when b r = record { applies = b; refusal = r }
 
--- the first reason that applies. An entry lists its reasons by their numbers, so that this is the smallest
+-- the first reason that applies. An entry lists its reasons in the order of refusals, so that this is the foremost
 abbrev pub first : List Reason → Verdict
 first [] = Fine
 first (r ∷ rs) = pick (r .applies) (Refused (r .refusal)) (first rs)

@@ -1,4 +1,4 @@
-// The numbered replies of document 01: why an entry refused, and whether it did.
+// The numbered replies of the papers: why an entry refused, and whether it did.
 ghost use mathlib.Core.Path.{_≡_};
 ghost use Rattle.reply.specs.Replies.{numberOf};
 
@@ -18,6 +18,7 @@ pub enum Refusal {
     NotAdjacent,
     NoCrossing,
     BadLine,
+    BadList,
 }
 
 // What an entry's tests found.
@@ -45,6 +46,7 @@ impl Refusal {
             Refusal::NotAdjacent => 12,
             Refusal::NoCrossing => 13,
             Refusal::BadLine => 14,
+            Refusal::BadList => 15,
         }
     }
 }

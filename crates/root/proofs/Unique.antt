@@ -1,10 +1,10 @@
--- Two outcomes of the root that meet one promise coincide, and its refusal is the smallest that applies. Assumes nothing.
+-- Two outcomes of the root that meet one promise coincide, and its refusal is the foremost that applies. Assumes nothing.
 use mathlib.Core.Path.{_≡_, sym, ap}
 use native.Mathlib.Omega.{arith}
 use lib.Dec.{T}
 use lib.Ieee.{Float, binary64, fits}
-use Rattle.reply.specs.Order.{Smallest}
-use Rattle.reply.proofs.Smallest.{smallest}
+use Rattle.reply.specs.Order.{Foremost}
+use Rattle.reply.proofs.Foremost.{foremost}
 use Rattle.reply.proofs.Entries.{values, answer-or-refusal, same-refusal}
 use Rattle.double.proofs.Sign.{same-bits}
 use Rattle.root.specs.declared.Rooted.{Rooted}
@@ -22,5 +22,5 @@ one-rooted (Done r) (Refused s) f g e = answer-or-refusal 1 _ s e
 one-rooted (Refused r) (Done s) f g e = answer-or-refusal 1 _ r (sym e)
 one-rooted (Refused r) (Refused s) f g e = ap Refused (same-refusal 1 r s e)
 
-pub root-smallest : (x : Float) → Smallest (rootReasons x) (rootVerdict x)
-root-smallest x = smallest 0 (rootReasons x) (omega arith, tt)
+pub root-foremost : (x : Float) → Foremost (rootReasons x) (rootVerdict x)
+root-foremost x = foremost 0 (rootReasons x) (omega arith, tt)

@@ -1,8 +1,10 @@
 //! Times both sides in one process on the same inputs: nanoseconds for an answer, best and median of the passes.
-use crate::{borders, chance::Chance, names, ours::{At, Outline, SphereOutline, Vector, bare}, places, sphere, vectors};
+use crate::ours::{At, Outline, SphereOutline, Vector, bare};
+use crate::{borders, chance::Chance, names, places, plain, regions, sphere, vectors};
 use h3o::coord::{CoordIJK, FaceIJK, Vec2d, Vec3d};
 use h3o::face::FRAME;
 use h3o::{Boundary, ExtendedResolution, Face, Resolution, Vertex, plane};
+use std::collections::HashSet;
 use std::hint::black_box;
 use std::time::Instant;
 
@@ -379,8 +381,70 @@ fn same_corner() {
     );
 }
 
+/// Places of uniform vectors at level 9, none twice, in the order of chance.
+fn region_places(n: usize) -> Vec<At> {
+    let (mut chance, mut seen) = (Chance(49), HashSet::new());
+    let cell = |v: Vector| At::from(places::numbers(FaceIJK::from_vec3d(vec3d(v), Resolution(9))).map(|n| n as u32));
+    std::iter::repeat_with(|| cell(vectors::uniform(&mut chance))).filter(|&at| seen.insert(at)).take(n).collect()
+}
+
+/// A million places of a region, and as many questions by chance, half of them for places that it has not.
+fn region() -> (Vec<At>, Vec<At>) {
+    let (mut places, mut chance) = (region_places(2 * MANY), Chance(50));
+    let others = places.split_off(MANY);
+    let asked = (0..MANY).map(|n| [places[n], others[n]][chance.below(2) as usize]).collect();
+    places.sort_unstable();
+    (places, asked)
+}
+
+/// One place a call. The Rust looks for it among the sorted places.
+fn region_has() {
+    let (places, asked) = region();
+    let list = regions::written(&places, 9);
+    let places: Vec<plain::Place> = places.into_iter().map(plain::Place::from).collect();
+    row(
+        "membership in a region of a million records", MANY,
+        || {
+            for &at in &asked {
+                let mut out = [0u32];
+                black_box(bare::region_has(&list, at, &mut out));
+                black_box(out);
+            }
+        },
+        || {
+            for &at in &asked {
+                black_box(places.binary_search(&plain::Place::from(at)).is_ok());
+            }
+        },
+    );
+}
+
+/// The times are a record's.
+fn region_check() {
+    let list = regions::written(&region().0, 9);
+    row(
+        "check of a region of a million records, a record", MANY,
+        || {
+            let mut out = [0u32; 2];
+            assert_eq!((bare::region_check(black_box(&list), &mut out), out), (0, [9, MANY as u32]));
+        },
+        || assert_eq!(plain::check(black_box(&list)), Some((9, MANY as u32))),
+    );
+}
+
+fn region_write() {
+    let rows = regions::rows(&region().0);
+    let (mut ours, mut theirs) = (vec![0; regions::TRAILER + 4 * rows.len()], vec![0; regions::TRAILER + 4 * rows.len()]);
+    row(
+        "writing a region of a million records, a record", MANY,
+        || assert_eq!(bare::region_write(9, black_box(&rows), black_box(&mut ours)), 0),
+        || assert_eq!(plain::write(9, black_box(&rows), black_box(&mut theirs)), 0),
+    );
+    assert!(ours == theirs);
+}
+
 /// The table's rows in their order, each under the question's name.
-const ROWS: [(&str, fn()); 18] = [
+const ROWS: [(&str, fn()); 21] = [
     ("place", place),
     ("place", place_one),
     ("round", round),
@@ -399,6 +463,9 @@ const ROWS: [(&str, fn()); 18] = [
     ("first name", || first_name("first name, within a face, beside the judge's search", &inner_points())),
     ("first name", || first_name("first name, on an edge, beside the judge's search", &edge_points())),
     ("first name", || first_name("first name, at a corner of a face, beside the judge's search", &face_corners())),
+    ("region", region_has),
+    ("region", region_check),
+    ("region", region_write),
 ];
 
 /// Prints the table, or its rows for the questions named.

@@ -32,7 +32,7 @@ pub fn sum_and_limit(at: At, level: u32) -> (u32, u32) {
     ((c.i() + c.j() + c.k()) as u32, places::limit(usize::from(grid) as u32, true))
 }
 
-/// Document 01's refusal before any crossing point is looked for, the smallest number first.
+/// Document 01's refusal before any crossing point is looked for, in the order of refusals.
 fn refusal(at: At, level: u32, bad_range: bool, tests_face: bool) -> u32 {
     if at.0 > 19 {
         return 3;

@@ -85,7 +85,7 @@ fn by_rule(shape: &Shape, frame: &Frame, at: At, level: u32, part: Part) -> Resu
     if then == 0 { Ok(said(&points, &vectors)) } else { Err(then) }
 }
 
-/// The boundary by the rule, the smallest refusal first, and of the points' the first.
+/// The boundary by the rule: its own refusals in their order, then of the points' the first.
 pub fn oracle(shape: &Shape, frame: &Frame, at: At, level: u32, part: Part) -> Globe {
     by_rule(shape, frame, at, level, part).unwrap_or_else(Said::refused)
 }

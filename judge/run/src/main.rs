@@ -4,11 +4,15 @@ mod borders;
 mod chance;
 mod globe;
 mod grids;
+mod lists;
+mod longest;
 mod names;
 mod ours;
 mod places;
+mod plain;
 mod plane;
 mod record;
+mod regions;
 mod root;
 mod round;
 mod short;
@@ -17,11 +21,14 @@ mod vectors;
 
 use std::path::Path;
 
+/// The refusals' numbers end with 15.
+const REFUSALS: usize = 15;
+
 /// How many questions of one kind were asked, how many got each refusal, and how many answers differed.
 pub struct Tally {
     name: &'static str,
     asked: u64,
-    refused: [u64; 15],
+    refused: [u64; REFUSALS + 1],
     differed: u64,
 }
 
@@ -48,7 +55,7 @@ impl Tally {
 
     fn print(&self) {
         let (Self { name, asked, differed, .. }, refused) = (self, self.refused[1..].iter().sum::<u64>());
-        let each: Vec<String> = (1..15).filter(|&n| self.refused[n] != 0).map(|n| format!("{n}: {}", self.refused[n])).collect();
+        let each: Vec<String> = (1..=REFUSALS).filter(|&n| self.refused[n] != 0).map(|n| format!("{n}: {}", self.refused[n])).collect();
         println!("{name}: {asked} asked, {refused} refused by both ({}), {differed} differ", each.join(", "));
     }
 }
@@ -56,7 +63,7 @@ impl Tally {
 /// A question's name and who asks it.
 type Question = (&'static str, fn(&mut Tally));
 
-const QUESTIONS: [Question; 30] = [
+const QUESTIONS: [Question; 36] = [
     ("raise", grids::run_raise),
     ("grid", grids::run_grid),
     ("reduce", grids::run_reduce),
@@ -87,6 +94,12 @@ const QUESTIONS: [Question; 30] = [
     ("sphere", sphere::run),
     ("hexagon sphere", globe::run_hexagon),
     ("pentagon sphere", globe::run_pentagon),
+    ("region write", regions::run_write),
+    ("region check", regions::run_check),
+    ("region record", regions::run_record),
+    ("region has", regions::run_has),
+    ("region span", regions::run_span),
+    ("region limit", longest::run),
 ];
 
 /// Where the sample of `ask_main` lies, from the top of the repository.
@@ -105,7 +118,7 @@ fn main() {
     let mut bad = false;
     let wanted = |name: &str| names.is_empty() || names.iter().any(|n| n == name);
     for (name, run) in QUESTIONS.into_iter().filter(|q| wanted(q.0)) {
-        let mut tally = Tally { name, asked: 0, refused: [0; 15], differed: 0 };
+        let mut tally = Tally { name, asked: 0, refused: [0; REFUSALS + 1], differed: 0 };
         run(&mut tally);
         tally.print();
         bad |= tally.differed != 0;

@@ -49,6 +49,12 @@ unsafe extern "C" {
         frame: *const f64, frame_len: usize, face: u32, i: u32, j: u32, k: u32, level: u32, start: u32, length: u32, marks: *mut u32,
         marks_len: usize, points: *mut f64, points_len: usize,
     ) -> u32;
+    fn heddleplume_region_write(level: u32, rows: *const i32, rows_len: usize, out: *mut u8, len: usize) -> u32;
+    fn heddleplume_region_check(list: *const u8, list_len: usize, out: *mut u32, len: usize) -> u32;
+    fn heddleplume_region_record(list: *const u8, list_len: usize, number: u32, out: *mut u32, len: usize) -> u32;
+    fn heddleplume_region_has(
+        list: *const u8, list_len: usize, face: u32, i: u32, j: u32, k: u32, out: *mut u32, len: usize,
+    ) -> u32;
 }
 
 /// The C functions over slices of any length.
@@ -145,6 +151,18 @@ pub mod bare {
     ) -> u32 {
         let (a, m, p) = ((frame.as_ptr(), frame.len()), (marks.as_mut_ptr(), marks.len()), (points.as_mut_ptr(), points.len()));
         unsafe { heddleplume_pentagon_sphere(a.0, a.1, f, i, j, k, level, start, length, m.0, m.1, p.0, p.1) }
+    }
+    pub fn region_write(level: u32, rows: &[i32], out: &mut [u8]) -> u32 {
+        unsafe { heddleplume_region_write(level, rows.as_ptr(), rows.len(), out.as_mut_ptr(), out.len()) }
+    }
+    pub fn region_check(list: &[u8], out: &mut [u32]) -> u32 {
+        unsafe { heddleplume_region_check(list.as_ptr(), list.len(), out.as_mut_ptr(), out.len()) }
+    }
+    pub fn region_record(list: &[u8], number: u32, out: &mut [u32]) -> u32 {
+        unsafe { heddleplume_region_record(list.as_ptr(), list.len(), number, out.as_mut_ptr(), out.len()) }
+    }
+    pub fn region_has(list: &[u8], (f, i, j, k): At, out: &mut [u32]) -> u32 {
+        unsafe { heddleplume_region_has(list.as_ptr(), list.len(), f, i, j, k, out.as_mut_ptr(), out.len()) }
     }
 }
 
@@ -323,4 +341,17 @@ pub fn globe(outline: SphereOutline, frame: &[f64], at: At, level: u32, part: (u
     assert_eq!(marks[25], UNTOUCHED, "an element past the marks was written");
     let value = |n: usize| if n < 25 { marks[n].into() } else { points.values[n - 25] };
     Said { number: points.number, values: std::array::from_fn(value) }
+}
+
+/// The level and the count.
+pub fn region_check(list: &[u8]) -> Said<2> {
+    asked::<2, 3>(|out| bare::region_check(list, out))
+}
+
+pub fn region_record(list: &[u8], number: u32) -> Said<4> {
+    asked::<4, 5>(|out| bare::region_record(list, number, out))
+}
+
+pub fn region_has(list: &[u8], at: At) -> Said<1> {
+    asked::<1, 2>(|out| bare::region_has(list, at, out))
 }

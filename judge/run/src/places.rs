@@ -25,7 +25,7 @@ pub fn not_reduced((_, i, j, k): At) -> bool {
     i.min(j).min(k) != 0 || i.max(j).max(k) > LARGEST
 }
 
-/// Document 01's refusal of a place on a grid, the smallest number first.
+/// Document 01's refusal of a place on a grid, in the order of refusals.
 pub fn refusal(at: At, level: Option<u32>, edge: Option<u32>) -> u32 {
     if at.0 > 19 {
         return 3;

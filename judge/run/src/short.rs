@@ -45,6 +45,15 @@ fn places(tally: &mut Tally) {
     short(tally, "sphere", 3, double, |out| bare::sphere(&FRAME, 20, 17, (f64::NAN, 0.), out));
 }
 
+/// Into a list of no rows, and from a list that is none.
+fn regions(tally: &mut Tally) {
+    let (word, [byte, ..]) = (UNTOUCHED, UNTOUCHED.to_le_bytes());
+    short(tally, "region write", 88, byte, |out| bare::region_write(16, &[], out));
+    short(tally, "region check", 2, word, |out| bare::region_check(&[], out));
+    short(tally, "region record", 4, word, |out| bare::region_record(&[], 0, out));
+    short(tally, "region has", 1, word, |out| bare::region_has(&[], NOWHERE, out));
+}
+
 /// Two slices, of which one or both are too short; both must stay.
 fn outline(tally: &mut Tally, name: &str, call: Outline) {
     for (m, p) in [(0, 24), (24, 24), (25, 23), (25, 0), (24, 23), (0, 0)] {
@@ -95,4 +104,5 @@ pub fn run(tally: &mut Tally) {
     globe(tally, "hexagon sphere", bare::hexagon_sphere);
     globe(tally, "pentagon sphere", bare::pentagon_sphere);
     framed(tally);
+    regions(tally);
 }

@@ -33,7 +33,7 @@ pub fn lifted(frame: &Frame, face: usize, grid: u32, (x, y): Point) -> Result<Ve
     Ok(reached.map(|part| part / length))
 }
 
-/// The entry's answer, the smallest refusal first.
+/// The entry's answer, in the order of refusals.
 fn by_rule(frame: &Frame, face: u32, grid: u32, point: Point) -> Result<Vector, u32> {
     if frame.bad {
         Err(1)

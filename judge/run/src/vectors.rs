@@ -104,7 +104,7 @@ fn vector_refusal(v: Vector) -> u32 {
     }
 }
 
-/// Document 01's refusal of a vector with a frame, the smallest number first.
+/// Document 01's refusal of a vector with a frame, in the order of refusals.
 fn refusal(frame: &Frame, level: u32, v: Vector) -> u32 {
     if frame.bad {
         1
@@ -449,7 +449,7 @@ pub fn run_place(tally: &mut Tally) {
     table(&seen);
 }
 
-/// Document 01's plane point on a named face, or its refusal, the smallest number first.
+/// Document 01's plane point on a named face, or its refusal, in the order of refusals.
 fn plane_by_rule(frame: &Frame, face: u32, level: u32, v: Vector) -> Result<(f64, f64), u32> {
     match refusal(frame, level, v) {
         1 => Err(1),

@@ -573,3 +573,90 @@ fn borders_on_the_sphere_write_no_more_than_their_length() {
         assert_eq!((&marks[25..], &points[36..]), (&[OLD; 2][..], &[OLD_DOUBLE; 2][..]));
     }
 }
+
+/// Two places in order, and the list of them.
+const ROWS: [i32; 8] = [3, 5, 0, 0, 19, 0, 1, 2];
+
+fn region_list() -> [u8; 120] {
+    let mut out = [0; 120];
+    assert_eq!(region_write(15, &ROWS, &mut out), 0);
+    out
+}
+
+fn region_write_keeps(number: u32, level: u32, rows: &[i32], lent: usize) {
+    let mut out = vec![7; lent];
+    assert_eq!(region_write(level, rows, &mut out), number);
+    assert!(out.iter().all(|&byte| byte == 7), "a refusal {number} wrote");
+}
+
+#[test]
+fn region_write_refuses_2_15_4() {
+    let wrong = [3, 1, 1, 1, -6, 0, 0, 0];
+    for rows in [&wrong[..1], &wrong[..3], &wrong[..5], &wrong[..7]] {
+        for lent in [0, 88, 104, 120] {
+            region_write_keeps(2, 16, rows, lent);
+        }
+    }
+    for lent in [0, 87, 88, 104, 119, 121, 136] {
+        region_write_keeps(2, 16, &wrong, lent);
+    }
+    region_write_keeps(15, 16, &wrong, 120);
+    region_write_keeps(15, 16, &wrong[4..], 104);
+    region_write_keeps(15, 16, &[ROWS, ROWS].concat(), 152);
+    region_write_keeps(4, 16, &ROWS, 120);
+    region_write_keeps(4, 16, &[], 88);
+    // All of what is lent is written.
+    let (mut out, mut again) = ([7; 120], [8; 120]);
+    assert_eq!((region_write(0, &ROWS, &mut out), region_write(0, &ROWS, &mut again)), (0, 0));
+    assert_eq!(out, again);
+}
+
+#[test]
+fn region_check_refuses_2_15() {
+    let list = region_list();
+    for lent in [0, 1] {
+        refused(2, lent, |out| region_check(&list, out));
+        refused(2, lent, |out| region_check(&list[1..], out));
+    }
+    for bad in [&[][..], &list[..88], &list[1..], &list[16..]] {
+        refused(15, 2, |out| region_check(bad, out));
+    }
+    answers(&[15, 2], |out| region_check(&list, out));
+}
+
+#[test]
+fn region_record_refuses_2_15_5() {
+    let list = region_list();
+    for lent in 0..4 {
+        refused(2, lent, |out| region_record(&list[1..], 2, out));
+        refused(2, lent, |out| region_record(&list, 0, out));
+    }
+    refused(15, 4, |out| region_record(&[], 2, out));
+    refused(15, 4, |out| region_record(&list[1..], 2, out));
+    refused(5, 4, |out| region_record(&list, 2, out));
+    refused(5, 4, |out| region_record(&list, u32::MAX, out));
+    answers(&[3, 5, 0, 0], |out| region_record(&list, 0, out));
+    answers(&[19, 0, 1, 2], |out| region_record(&list, 1, out));
+}
+
+#[test]
+fn region_has_refuses_2_15_3_10() {
+    let list = region_list();
+    // Face 4 begins at record 255, which is past the count.
+    let mut past = list;
+    past[32 + 4 * 4] = 255;
+    refused(2, 0, |out| region_has(&list[1..], FACE, out));
+    refused(2, 0, |out| region_has(&past, [3, 1, 1, 1], out));
+    refused(15, 1, |out| region_has(&list[1..], FACE, out));
+    refused(15, 1, |out| region_has(&past, [3, 1, 1, 1], out));
+    refused(15, 1, |out| region_has(&past, [4, 1, 1, 1], out));
+    refused(3, 1, |out| region_has(&past, [20, 1, 1, 1], out));
+    refused(3, 1, |out| region_has(&list, [20, 1, 1, 1], out));
+    refused(10, 1, |out| region_has(&list, UNREDUCED, out));
+    refused(10, 1, |out| region_has(&list, [0, (1 << 26) + 1, 0, 0], out));
+    // Each of the four numbers is heard.
+    answers(&[1], |out| region_has(&list, [19, 0, 1, 2], out));
+    for other in [[18, 0, 1, 2], [19, 1, 0, 2], [19, 0, 2, 2], [19, 0, 1, 3]] {
+        answers(&[0], |out| region_has(&list, other, out));
+    }
+}

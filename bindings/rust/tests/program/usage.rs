@@ -3,7 +3,7 @@ use std::ffi::OsStr;
 use std::fs::OpenOptions;
 use std::os::unix::ffi::OsStrExt;
 
-use super::{asked, ended, program};
+use super::{Folder, asked, ended, program};
 
 fn misused(words: &str, what: &str) {
     let (status, printed, said) = asked(words);
@@ -35,6 +35,19 @@ fn words_that_are_no_question() {
         "batch 9 vectors.csv",
         "`vectors.csv` is one word too many\nusage: heddleplume batch LEVEL\nfor example: heddleplume batch 9 <",
     );
+    misused("region", "write, check, has or list is missing\nusage: heddleplume region write LEVEL [FILE]\n");
+    misused("region open north.region", "there is no question `region open`\nusage: heddleplume region write LEVEL [FILE]\n");
+    misused("region write", "LEVEL is missing\nusage: heddleplume region write LEVEL [FILE]\n");
+    misused("region write nine", "LEVEL is `nine`, which is no whole number");
+    misused("region write 9 north.region south.region", "`south.region` is one word too many");
+    misused("region check", "FILE is missing\nusage: heddleplume region check FILE\n");
+    misused("region check north.region 9", "`9` is one word too many");
+    misused("region has", "FILE is missing\nusage: heddleplume region has FILE FACE I J K\n");
+    misused("region has north.region 3 9433 0", "K is missing");
+    misused("region has north.region 3 -1 0 0", "I is `-1`, which is no whole number");
+    misused("region has north.region 3 9433 0 4829 0", "`0` is one word too many");
+    misused("region list", "FILE is missing\nusage: heddleplume region list FILE\n");
+    misused("help region open", "there is no question `region open`");
     let (status, _, said) = ended(program("round").arg(OsStr::from_bytes(b"\xff")).output().unwrap());
     assert!(status == Some(2) && said.contains("is no text"), "{said}");
 }
@@ -55,15 +68,21 @@ fn help_and_version() {
 #[test]
 fn examples_of_the_help() {
     let help = asked("--help").1;
-    let listed = help.lines().filter_map(|line| line.strip_prefix("  ")).map(|line| line.split(' ').next().unwrap_or_default());
-    let names: Vec<&str> = listed.filter(|name| asked(&format!("help {name}")).0 == Some(0)).collect();
-    assert_eq!(names.len(), 20, "{names:?}");
+    let first_words = |line: &str, count| line.split(' ').take(count).collect::<Vec<_>>().join(" ");
+    let is_question = |name: &String| asked(&format!("help {name}")).0 == Some(0);
+    let listed = help.lines().filter_map(|line| line.strip_prefix("  "));
+    let named = listed.filter_map(|line| [first_words(line, 2), first_words(line, 1)].into_iter().find(is_question));
+    let names: Vec<String> = named.collect();
+    assert_eq!(names.len(), 24, "{names:?}");
+    // The first of those on a region writes the file that the others ask.
+    let folder = Folder::of("examples");
     for name in names {
         let on = asked(&format!("help {name}")).1;
         let example = on.lines().find_map(|line| line.strip_prefix("for example: heddleplume ")).expect("there is one");
         let words = example.split('<').next().unwrap_or_default();
-        assert_eq!(asked(words).0, Some(0), "{example}");
+        assert_eq!(folder.asked(words).0, Some(0), "{example}");
     }
+    assert_eq!(asked("help region").1.matches("usage: ").count(), 4);
 }
 
 #[test]

@@ -58,15 +58,21 @@ unfolding nameOf
 returns-13 c = rw (c .before .before .before .before .before .match .keys13) (c .before .before .put-word13 .ensures)
 
 returns-14 : tie.Need-returns-14
-returns-14 c =
+unfolding nameOf
+returns-14 c = rw (c .before .before .before .before .before .match .keys14) (c .before .before .put-word14 .ensures)
+
+returns-15 : tie.Need-returns-15
+returns-15 c =
     let n = c .before .before .before .before .before .before .before .args .number in
     let r = c .before .before .before .before .before .match .rest in
-    rw (last-name n (above 13 n (above 12 n (above 11 n (above 10 n (above 9 n (above 8 n (above 7 n (above 6 n (above 5 n (above 4 n (above 3 n (above 2 n (above 1 n (c .before .before .before .before .before .before .before .pre .0) (r .0 .0 .0 .0 .0 .0 .0 .0 .0 .0 .0 .0 .1)) (r .0 .0 .0 .0 .0 .0 .0 .0 .0 .0 .0 .1)) (r .0 .0 .0 .0 .0 .0 .0 .0 .0 .0 .1)) (r .0 .0 .0 .0 .0 .0 .0 .0 .0 .1)) (r .0 .0 .0 .0 .0 .0 .0 .0 .1)) (r .0 .0 .0 .0 .0 .0 .0 .1)) (r .0 .0 .0 .0 .0 .0 .1)) (r .0 .0 .0 .0 .0 .1)) (r .0 .0 .0 .0 .1)) (r .0 .0 .0 .1)) (r .0 .0 .1)) (r .0 .1)) (r .1))) (c .before .before .put-word14 .ensures)
+    rw (last-name n (above 14 n (above 13 n (above 12 n (above 11 n (above 10 n (above 9 n (above 8 n (above 7 n (above 6 n (above 5 n (above 4 n (above 3 n (above 2 n (above 1 n (c .before .before .before .before .before .before .before .pre .0) (r .0 .0 .0 .0 .0 .0 .0 .0 .0 .0 .0 .0 .0 .1)) (r .0 .0 .0 .0 .0 .0 .0 .0 .0 .0 .0 .0 .1)) (r .0 .0 .0 .0 .0 .0 .0 .0 .0 .0 .0 .1)) (r .0 .0 .0 .0 .0 .0 .0 .0 .0 .0 .1)) (r .0 .0 .0 .0 .0 .0 .0 .0 .0 .1)) (r .0 .0 .0 .0 .0 .0 .0 .0 .1)) (r .0 .0 .0 .0 .0 .0 .0 .1)) (r .0 .0 .0 .0 .0 .0 .1)) (r .0 .0 .0 .0 .0 .1)) (r .0 .0 .0 .0 .1)) (r .0 .0 .0 .1)) (r .0 .0 .1)) (r .0 .1)) (r .1))) (c .before .before .put-word15 .ensures)
 
 pub put-name-spec : {M : Type 1} → statement M
 put-name-spec =
     tie.close
     (tie.spec
+    (λ c. search needs)
+    (λ c κs. search needs)
     (λ c. search needs)
     (λ c κs. search needs)
     (λ c. search needs)
@@ -122,4 +128,6 @@ put-name-spec =
     (λ c. search needs)
     returns-13
     (λ c. search needs)
-    returns-14)
+    returns-14
+    (λ c. search needs)
+    returns-15)

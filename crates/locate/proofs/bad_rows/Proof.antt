@@ -4,7 +4,7 @@ use Prim.Native.Nat.{_+_, _/_}
 use native.Mathlib.Omega.{arith}
 use borrow.Author.Tests.{lt-ltb}
 use Rattle.locate.specs.Batch.{badRows}
-use Rattle.locate.proofs.Placing.{ltb-shift}
+use Rattle.words.proofs.Placing.{ltb-shift}
 use Rattle.locate.proofs.bad_rows.Statement.{statement}
 use Rattle.locate.proofs.bad_rows.Tie as tie
 

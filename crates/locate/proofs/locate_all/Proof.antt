@@ -6,9 +6,9 @@ use native.Mathlib.Omega.{arith}
 use lib.ListN.{length, length-drop}
 use Rattle.reply.specs.declared.Verdict.the-variants.{Fine}
 use Rattle.reply.specs.Replies.{first}
-use Rattle.locate.specs.Rows.{rowsTo}
+use Rattle.words.specs.Rows.{rowsTo}
 use Rattle.locate.specs.Batch.{rowAt, reasonsFor}
-use Rattle.locate.proofs.Placing.{lent, lent-back}
+use Rattle.words.proofs.Placing.{lent, lent-back}
 use Rattle.locate.proofs.Writing.{Ready, ready, batch-answers, batch-refuses}
 use Rattle.locate.proofs.locate_all.Statement.{statement}
 use Rattle.locate.proofs.locate_all.Tie as tie

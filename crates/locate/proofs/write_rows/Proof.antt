@@ -9,10 +9,10 @@ use lib.ListN.{length}
 use lib.Seq.{sets}
 use Rattle.reply.specs.Replies.{Reply}
 use Rattle.locate.specs.Locating.{saidLocated, rowReply}
-use Rattle.locate.specs.Rows.{rowsTo, oneIf, countTo, Filled}
+use Rattle.words.specs.Rows.{rowsTo, oneIf, countTo, Filled}
 use Rattle.locate.specs.Batch.{isRefused, rowOf, Ahead, rowAt, refusedAt}
 use Rattle.vec3d.specs.Frame.{vecAt}
-use Rattle.locate.proofs.Placing.{one-low, rows-more}
+use Rattle.words.proofs.Placing.{one-low, rows-more}
 use Rattle.locate.proofs.Writing.{row-length}
 use Rattle.locate.proofs.Giving.{given-okay}
 use Rattle.locate.proofs.write_rows.Statement.{statement}

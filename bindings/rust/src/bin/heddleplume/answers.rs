@@ -97,7 +97,7 @@ fn border<P>(
 
 /// The question's own advice on one refusal, where the general one speaks of what is not behind this question: a receiver, a border.
 fn advised(on: Refusal, advice: &'static str) -> impl Fn(Refusal) -> Failure {
-    move |refusal| if refusal == on { Failure::Advised(refusal, advice) } else { refusal.into() }
+    move |refusal| if refusal == on { Failure::Advised(refusal, advice.into()) } else { refusal.into() }
 }
 
 fn sphere(words: &mut Words) -> Answer {

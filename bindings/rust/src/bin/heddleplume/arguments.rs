@@ -71,6 +71,10 @@ impl<'a> Words<'a> {
         Ok([self.double("X")?, self.double("Y")?, self.double("Z")?])
     }
 
+    pub fn file(&mut self) -> Result<&'a str, Failure> {
+        self.next("FILE")
+    }
+
     pub fn is_empty(&self) -> bool {
         self.left.len() == 0
     }

@@ -13,25 +13,34 @@ pub enum Failure {
     /// The library refused the question, or the whole batch.
     Refused(Refusal),
     /// The same, where the question has an advice of its own.
-    Advised(Refusal, &'static str),
+    Advised(Refusal, String),
     /// The input could not be read.
     Read(io::Error),
     /// The output could not be written.
     Written(io::Error),
+    /// A file, or the lines for one, could not be read, and nothing was answered.
+    Unread(String, io::Error),
+    /// A file could not be written, and what stood there before stands there still.
+    Kept(String, io::Error),
 }
 
 impl Failure {
     pub fn status(&self) -> u8 {
         match self {
             Failure::Usage(_) => 2,
-            Failure::Refused(_) | Failure::Advised(..) | Failure::Read(_) | Failure::Written(_) => 1,
+            Failure::Refused(_)
+            | Failure::Advised(..)
+            | Failure::Read(_)
+            | Failure::Written(_)
+            | Failure::Unread(..)
+            | Failure::Kept(..) => 1,
         }
     }
 
     /// The same, with the form of the question that was meant.
     pub fn about(self, name: &str) -> Failure {
-        match (self, help::entry_of(name)) {
-            (Failure::Usage(what), Some(entry)) => Failure::Usage(format!("{what}\n{}", entry.usage())),
+        match (self, help::usage_of(name)) {
+            (Failure::Usage(what), Some(usage)) => Failure::Usage(format!("{what}\n{usage}")),
             (failure, _) => failure,
         }
     }
@@ -54,6 +63,8 @@ impl fmt::Display for Failure {
                 write!(f, "the output is not whole: the program that reads it has stopped")
             }
             Failure::Written(error) => write!(f, "the output could not be written and is not whole: {error}; make room and ask again"),
+            Failure::Unread(name, error) => write!(f, "{name} could not be read: {error}"),
+            Failure::Kept(name, error) => write!(f, "{name} could not be written and stays as it was: {error}"),
         }
     }
 }

@@ -15,7 +15,7 @@ const fn entry(name: &'static str, form: &'static str, example: &'static str, an
     Entry { name, form, example, answer }
 }
 
-static ENTRIES: [Entry; 20] = [
+static ENTRIES: [Entry; 24] = [
     entry("place", "LEVEL X Y Z", "9 0.6 0 0.8", "face i j k: the place of a unit vector"),
     entry("nearest", "X Y Z", "0.6 0 0.8", "the nearest face, and the squared distance from its centre"),
     entry("border", "FACE LEVEL I J K [START LENGTH]", "0 1 1 0 0", "a hexagon's border: face x y corner|crossing of each point"),
@@ -41,6 +41,10 @@ static ENTRIES: [Entry; 20] = [
     entry("same", "LEVEL FACE I J K FACE I J K", "0 4 4 0 2 0 4 2 0", "yes or no: whether two corners are one, by whatever names"),
     entry("first", "FACE LEVEL I J K", "4 0 4 0 2", "face i j k: of all names of a corner the one with the lowest face"),
     entry("batch", "LEVEL", "9 <vectors.csv >places.csv", "a whole file: for each line x,y,z a line face,i,j,k"),
+    entry("region write", "LEVEL [FILE]", "9 north.region <places.csv", "a region list of lines FACE,I,J,K or FACE I J K"),
+    entry("region check", "FILE", "north.region", "level LEVEL places COUNT, if FILE is a region list, and whole"),
+    entry("region has", "FILE FACE I J K", "north.region 3 9433 0 4829", "yes or no: whether a place is in the region"),
+    entry("region list", "FILE", "north.region", "face i j k of each of its places, as region write reads them"),
 ];
 
 const TOP: &str = "\
@@ -68,6 +72,12 @@ batch answers each line x,y,z by one line, in order. Each has four columns:
 A line that is not three numbers is refused too: 14, BadLine. A first line that holds no number is a header,
 and a header answers it. Standard error says how many lines were refused, and what to do about them.
 
+region write reads a place a line, as batch writes it or with blanks, in any order; repeats are dropped, and a
+first line without a digit is a header. If a line is refused, nothing is written: leave out the rows that a
+batch refused. FILE is written whole or not at all, as a new file beside it that then takes its name. Without
+FILE the list goes to standard output, where a full disk leaves half a list and not the old one. region check,
+has and list first check all of FILE. A place does not tell its level: it must be that of the list.
+
 It ends with 0 if it answered (a batch: to the end, whatever was refused), with 1 if the question was refused
 or the input or output failed, with 2 if the words are no question.";
 
@@ -77,8 +87,20 @@ impl Entry {
     }
 }
 
-pub fn entry_of(name: &str) -> Option<&'static Entry> {
-    ENTRIES.iter().find(|entry| entry.name == name)
+/// The entry of a name; of `region`, which is the first word of several, all of them.
+fn entries_of(name: &str) -> Vec<&'static Entry> {
+    let first = format!("{name} ");
+    ENTRIES.iter().filter(|entry| entry.name == name || entry.name.starts_with(&first)).collect()
+}
+
+fn of_each(name: &str, text: fn(&Entry) -> String) -> Option<String> {
+    let texts: Vec<String> = entries_of(name).into_iter().map(text).collect();
+    (!texts.is_empty()).then(|| texts.join("\n"))
+}
+
+/// How a question is asked.
+pub fn usage_of(name: &str) -> Option<String> {
+    of_each(name, Entry::usage)
 }
 
 /// Why a name is no question.
@@ -96,7 +118,9 @@ pub fn whole() -> String {
 pub fn on(words: &[String]) -> Result<String, Failure> {
     match words {
         [] => Ok(whole()),
-        [name] => entry_of(name).map(|entry| format!("{}\nanswer: {}", entry.usage(), entry.answer)).ok_or_else(|| unknown(name)),
-        _ => Err(Failure::Usage("help takes one question".into())),
+        _ => {
+            let name = words.join(" ");
+            of_each(&name, |entry| format!("{}\nanswer: {}", entry.usage(), entry.answer)).ok_or_else(|| unknown(&name))
+        }
     }
 }

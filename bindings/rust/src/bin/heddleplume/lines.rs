@@ -1,4 +1,4 @@
-//! The lines of a batch's input: cut at each newline, into one buffer that is used again.
+//! The lines of an input: cut at each newline, into one buffer that is used again; and the vectors that they write.
 use std::io::{self, BufRead, Read};
 
 /// The bytes of the longest line that is read. Three doubles written out in full, as 1e-308 is, have about a thousand.
@@ -38,7 +38,7 @@ impl<R: BufRead> Lines<R> {
 }
 
 /// A field of a line as a double.
-fn double(field: &[u8]) -> Option<f64> {
+pub fn double(field: &[u8]) -> Option<f64> {
     std::str::from_utf8(field.trim_ascii()).ok()?.parse().ok()
 }
 

@@ -1,14 +1,19 @@
-//! The program for persons: one question as words of the command line, or a whole file of vectors as a batch. All on the default frame.
+//! The program for persons: one question as words of the command line, a whole file of vectors as a batch, or a region list. All on the
+//! default frame.
 //! It ends with 0 if it answered, 1 if the question was refused or nothing could be read or written, 2 if the words are no question.
 #![deny(unsafe_code)]
 
 mod answers;
 mod arguments;
 mod batch;
+mod damage;
 mod failure;
 mod help;
 mod lines;
+mod places;
+mod region;
 mod rows;
+mod whole_file;
 
 use std::env;
 use std::ffi::OsString;
@@ -46,6 +51,7 @@ fn answer() -> Result<(), Failure> {
         "--version" | "-V" => print(concat!("heddleplume ", env!("CARGO_PKG_VERSION"))),
         "help" => print(&help::on(rest)?),
         "batch" => batch::from_words(Words::new(rest)).map_err(|failure| failure.about("batch")),
+        "region" => region::from_words(rest),
         _ => print(&answers::to(name, rest)?),
     }
 }

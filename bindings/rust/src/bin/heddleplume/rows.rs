@@ -1,7 +1,7 @@
 //! A block of rows on its way through the batch: vectors in, lines of text out.
 use std::io::{self, Write};
 
-use heddleplume::{CellLevel, Frame, Refusal, locate_all, read_row};
+use heddleplume::{CellLevel, FaceIJK, Frame, Refusal, locate_all, read_row};
 
 /// How many rows a block has.
 pub const BLOCK: usize = 4096;
@@ -60,7 +60,7 @@ impl Block {
                 continue;
             }
             match read_row(*row).expect("the batch has written every row") {
-                Ok(_) => write_row(&mut self.text, *row),
+                Ok(place) => write_row(&mut self.text, place, b','),
                 Err(refusal) => refuse(&mut self.text, refusal, tally),
             }
         }
@@ -76,10 +76,11 @@ fn refuse(text: &mut Vec<u8>, refusal: Refusal, tally: &mut Tally) {
     writeln!(text, "refused,{},{refusal:?},", refusal.number()).expect("there is always room in a vector");
 }
 
-fn write_row(text: &mut Vec<u8>, row: [i32; 4]) {
-    for number in row {
-        write_digits(text, number.unsigned_abs());
-        text.push(b',');
+/// A place as a line, with this byte between its numbers.
+pub fn write_row(text: &mut Vec<u8>, place: FaceIJK, between: u8) {
+    for number in <[u32; 4]>::from(place) {
+        write_digits(text, number);
+        text.push(between);
     }
     *text.last_mut().expect("a row has four numbers") = b'\n';
 }

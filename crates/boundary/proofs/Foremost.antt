@@ -1,4 +1,4 @@
--- The refusal given is the one with the smallest number, and a crossing point's, 12 or 13, comes after all others. Assumes nothing.
+-- The refusal given is the foremost, and a crossing point's, 12 or 13, comes after all others. Assumes nothing.
 use mathlib.Core.Path.{_≡_, refl, ap, _∙_}
 use mathlib.Core.Bool.{Bool, true, false}
 use mathlib.Core.Logic.{_⊎_, inl, inr}
@@ -10,20 +10,20 @@ use Rattle.reply.specs.declared.Refusal.{Refusal}
 use Rattle.reply.specs.declared.Verdict.{Verdict}
 use Rattle.reply.specs.declared.Verdict.the-variants.{Fine, Refused}
 use Rattle.reply.specs.Replies.{numberOf, Reason, first}
-use Rattle.reply.specs.Order.{Each, Smallest}
-use Rattle.reply.proofs.Smallest.{smallest}
+use Rattle.reply.specs.Order.{Each, Foremost}
+use Rattle.reply.proofs.Foremost.{foremost}
 use Rattle.faceijk.specs.declared.Place.{Place}
 use Rattle.boundary.specs.Corners.{cornersReasons, cornersVerdict}
 use Rattle.boundary.specs.Boundaries.{orElse, boundaryReasons}
 
--- Corners give the smallest number of 3, 4 and 10 that applies.
-pub corners-smallest : (p : Place) (l : ℕ) → Smallest (cornersReasons p l) (cornersVerdict p l)
-corners-smallest p l = smallest 0 (cornersReasons p l) (omega arith, (omega arith, (omega arith, tt)))
+-- Corners give the foremost of 3, 4 and 10 that applies.
+pub corners-foremost : (p : Place) (l : ℕ) → Foremost (cornersReasons p l) (cornersVerdict p l)
+corners-foremost p l = foremost 0 (cornersReasons p l) (omega arith, (omega arith, (omega arith, tt)))
 
--- The tests of a boundary give the smallest number of 3, 4, 5, 10 and 11 that applies.
-pub boundary-smallest : (sides : ℕ) (p : Place) (l start n : ℕ) → Smallest (boundaryReasons sides p l start n) (first (boundaryReasons sides p l start n))
-boundary-smallest sides p l start n =
-    smallest 0 (boundaryReasons sides p l start n) (omega arith, (omega arith, (omega arith, (omega arith, (omega arith, tt)))))
+-- The tests of a boundary give the foremost of 3, 4, 5, 10 and 11 that applies.
+pub boundary-foremost : (sides : ℕ) (p : Place) (l start n : ℕ) → Foremost (boundaryReasons sides p l start n) (first (boundaryReasons sides p l start n))
+boundary-foremost sides p l start n =
+    foremost 0 (boundaryReasons sides p l start n) (omega arith, (omega arith, (omega arith, (omega arith, (omega arith, tt)))))
 
 -- a verdict by reasons that all have numbers below m has one below m
 below : (m : ℕ) (rs : List Reason) → Each (λ (x : Reason). numberOf (x .refusal) < m) rs → (r : Refusal) → first rs ≡ Refused r → numberOf r < m

@@ -1,0 +1,2 @@
+-- Laws of `lent_grid`: the order of the two refusals that stand at the C face alone.
+pub mod Order
