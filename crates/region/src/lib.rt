@@ -12,6 +12,13 @@ use faceijk::Place;
 use reply::Refusal;
 use reply::Verdict;
 
+// The bytes of a record, those after the records, and how many records there may be.
+pub const RECORD: usize = 16;
+
+pub const TAIL: usize = 88;
+
+pub const MOST: usize = 2147483647;
+
 pub enum Recorded {
     Done(Place),
     Refused(Refusal),
@@ -52,7 +59,7 @@ pub fn record_at(list: &[u8], n: usize) -> Place
     requires { ⌜ 16 * n + 16 ≤ length (now list) ⌝ }
     ensures { λ r. ⌜ r ≡ recordAt (now (list .entry)) n ⌝ }
 {
-    let at = 16 * n;
+    let at = RECORD * n;
     Place {
         face: words::word_at(list, at),
         i: words::word_at(list, at + 4),
@@ -72,7 +79,7 @@ pub fn start_of(list: &[u8], face: u32) -> usize
     requires { ⌜ (88 ≤ length (now list)) × (face < 20) ⌝ }
     ensures { λ r. ⌜ r ≡ startOf (now (list .entry)) face ⌝ }
 {
-    number_at(list, list.len() - 88 + 4 * (face as usize))
+    number_at(list, list.len() - TAIL + 4 * (face as usize))
 }
 
 // Where a face ends: where the next one begins, or at the count.
@@ -80,20 +87,21 @@ fn end_of(list: &[u8], face: u32) -> usize
     requires { ⌜ (88 ≤ length (now list)) × (face < 20) ⌝ }
     ensures { λ r. ⌜ r ≡ endOf (now (list .entry)) face ⌝ }
 {
-    if face == 19 {
+    if face == Place::LAST_FACE {
         return count_of(list);
     }
     start_of(list, face + 1)
 }
 
+// All that the quick question and the reader ask of a list besides its starts. Public for the full check.
 pub fn wrong_length(list: &[u8]) -> bool
     ensures { λ r. ⌜ r ≡ wrongLength (now (list .entry)) ⌝ }
 {
-    if list.len() < 88 {
+    if list.len() < TAIL {
         return true;
     }
     let count = count_of(list);
-    (2147483647 < count) | (list.len() != 88 + 16 * count)
+    (MOST < count) | (list.len() != TAIL + RECORD * count)
 }
 
 // The record with a number.
@@ -123,7 +131,7 @@ fn bad_for(list: &[u8], face: u32) -> bool
     if wrong_length(list) {
         return true;
     }
-    if 19 < face {
+    if Place::LAST_FACE < face {
         return false;
     }
     bad_span(list, face)

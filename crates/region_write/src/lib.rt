@@ -75,17 +75,18 @@ fn rows_sound(rows: &[i32], count: usize) -> bool
 fn bad_room(ins: usize, outs: usize) -> bool
     ensures { λ r. ⌜ r ≡ badRoom ins outs ⌝ }
 {
-    if outs < 88 {
+    if outs < region::TAIL {
         return true;
     }
-    (ins % 4 != 0) | ((outs - 88) % 16 != 0) | ((outs - 88) / 16 != ins / 4)
+    let room = outs - region::TAIL;
+    (ins % 4 != 0) | (room % region::RECORD != 0) | (room / region::RECORD != ins / 4)
 }
 
 fn bad_records(rows: &[i32]) -> bool
     ensures { λ r. ⌜ r ≡ badRecords (now (rows .entry)) ⌝ }
 {
     let count = rows.len() / 4;
-    if 2147483647 < count {
+    if region::MOST < count {
         return true;
     }
     !rows_sound(rows, count)
@@ -126,7 +127,7 @@ fn put_places(rows: &[i32], out: &mut [u8])
     let count = rows.len() / 4;
     let mut row = 0usize;
     while row < count {
-        put_place(out, 16 * row, place_in(rows, row));
+        put_place(out, region::RECORD * row, place_in(rows, row));
         row += 1;
     }
 }
@@ -179,7 +180,7 @@ pub fn write(level: CellLevel, rows: &[i32], out: &mut [u8]) -> Verdict
     match verdict {
         Verdict::Fine => {
             let count = rows.len() / 4;
-            let end = 16 * count;
+            let end = region::RECORD * count;
             put_places(rows, out);
             put_tail(level.0, rows, count, &mut out[end..]);
             Verdict::Fine
