@@ -1,6 +1,6 @@
 -- What the tests of a list leave known. Assumes nothing.
-use mathlib.Core.Path.{_≡_, sym, ap}
-use mathlib.Core.Bool.{Bool, false, not, _||_, _&&_}
+use mathlib.Core.Path.{_≡_, refl, sym, ap}
+use mathlib.Core.Bool.{Bool, true, false, not, _||_, _&&_}
 use mathlib.Core.List.{List, [], _∷_}
 use Prim.Native.Nat.{ℕ, _+_, _-_, _*_, _≤_, _<_}
 use native.Mathlib.Omega.{arith}
@@ -8,12 +8,13 @@ use lib.Dec.{ltb, eqb}
 use lib.ListN.{length}
 use borrow.Author.Tests.{ltb-false, eqb-true, not-false, le-ltb}
 use Rattle.reply.specs.declared.Verdict.the-variants.{Fine}
-use Rattle.reply.specs.declared.Refusal.the-variants.{BadList, BadFace}
-use Rattle.reply.specs.Replies.{answer}
+use Rattle.reply.specs.declared.Refusal.the-variants.{BadList, BadFace, NotReduced}
+use Rattle.reply.specs.Replies.{numberOf, when, first, answer, reply}
 use Rattle.reply.proofs.Entries.{neither, passed, answers}
 use Rattle.level.specs.Levels.{bit}
 use Rattle.faceijk.specs.declared.Place.{Place}
-use Rattle.faceijk.specs.Places.{badFace, placeVerdict}
+use Rattle.coordijk.specs.Coordinates.{notReduced}
+use Rattle.faceijk.specs.Places.{badFace, coordOf, placeVerdict}
 use Rattle.region.specs.Lists.{recordAt, startOf, endOf, countOf, wrongLength, badSpan}
 use Rattle.region.specs.Places.{before}
 use Rattle.region.specs.Entries.{halved, standsAt, badFor, soughtIn, hasVerdict, hasReply}
@@ -72,3 +73,16 @@ few-turns-in s p k =
     sym
     (few-turns (λ n. before (recordAt s n) p) 31 (endOf s (p .face) - startOf s (p .face)) (startOf s (p .face)) (endOf s (p .face))
     (omega (arith, k .within, k .is-long .few)) (omega (arith, k .ordered)))
+
+-- "BadList exactly if the length is wrong or the two starts it reads are out of order or past the count", both ways.
+pub bad-list : (s : List ℕ) (p : Place) → badFor s (p .face) ≡ true → hasReply s p .number ≡ numberOf BadList
+bad-list s p e = rw e
+
+pub only-bad-list : (s : List ℕ) (p : Place) → hasReply s p .number ≡ numberOf BadList → badFor s (p .face) ≡ true
+only-bad-list s p h = go (badFor s (p .face)) (badFace (p .face)) (notReduced (coordOf p)) h
+  where
+    go : (bad x y : Bool) → reply 1 (first (when bad BadList ∷ when x BadFace ∷ when y NotReduced ∷ [])) (bit (soughtIn s p) ∷ []) .number ≡ numberOf BadList → bad ≡ true
+    go true x y e = refl
+    go false true y e = absurd (omega arith)
+    go false false true e = absurd (omega arith)
+    go false false false e = absurd (omega arith)

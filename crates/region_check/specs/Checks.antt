@@ -12,11 +12,11 @@ use Rattle.faceijk.specs.Places.{samePlace, placeVerdict}
 use Rattle.region.specs.Places.{allTo, anyTo}
 use Rattle.region.specs.Lists.{recordAt, startOf, levelOf, countOf, wrongLength}
 use Rattle.region_check.specs.declared.Checked.{Checked}
-use Rattle.region_check.specs.Sound.{soundTo}
+use Rattle.region_check.specs.Sound.{facesOf, soundTo}
 use Rattle.region_check.specs.Starts.{begins, splits}
 
 abbrev pub faceAt : List ℕ → ℕ → ℕ
-faceAt s n = recordAt s n .face
+faceAt s = facesOf (recordAt s)
 
 abbrev pub startRight : List ℕ → ℕ → Bool
 startRight s f = eqb (startOf s f) (begins (faceAt s) (countOf s) f)

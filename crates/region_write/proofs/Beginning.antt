@@ -8,11 +8,10 @@ use borrow.Author.Tests.{ltb-true, ltb-false, lt-ltb}
 use Rattle.faceijk.specs.declared.Place.{Place}
 use Rattle.region.specs.Entries.{halved}
 use Rattle.region.proofs.Halving.{ends}
-use Rattle.region_check.specs.Sound.{soundTo}
+use Rattle.region_check.specs.Sound.{facesOf, soundTo}
 use Rattle.region_check.specs.Starts.{begins}
 use Rattle.region_check.proofs.Sorted.{small-at, rising-faces}
 use Rattle.region_check.proofs.Begins.{Parts, one-part, begins-parts}
-use Rattle.region_write.specs.Files.{facesOf}
 
 abbrev pub lowerFace : (ℕ → Place) → ℕ → ℕ → Bool
 lowerFace at f n = ltb (facesOf at n) f

@@ -15,13 +15,13 @@ use Rattle.words.specs.Words.{wordBytes}
 use Rattle.words.specs.Rows.{rowsTo}
 use Rattle.words.proofs.Placing.{rows-length, rows-at, rows-same}
 use Rattle.region.specs.Lists.{recordAt, levelOf, countOf}
-use Rattle.region_check.specs.Sound.{soundTo}
+use Rattle.region_check.specs.Sound.{facesOf, soundTo}
 use Rattle.region_check.specs.Checks.{passes}
 use Rattle.region_check.proofs.Sorted.{sound-same}
 use Rattle.region_check.proofs.Begins.{begins-same}
 use Rattle.region_check.proofs.Checking.{Passed, passed-all}
 use Rattle.region_write.specs.Signed.{placeIn}
-use Rattle.region_write.specs.Files.{placeBytes, facesOf, startBytes, tailBytes, fileOf}
+use Rattle.region_write.specs.Files.{placeBytes, startBytes, tailBytes, fileOf}
 use Rattle.region_write.specs.Writing.{rowCount, badRoom, badRecords, writeVerdict, writeOutcome}
 use Rattle.region_write.proofs.Ready.{write-answers}
 use Rattle.region_write.proofs.Canonical.{canonical}

@@ -4,13 +4,11 @@ use Prim.Native.Nat.{ℕ}
 use Rattle.faceijk.specs.declared.Place.{Place}
 use Rattle.words.specs.Words.{wordBytes}
 use Rattle.words.specs.Rows.{rowsTo}
+use Rattle.region_check.specs.Sound.{facesOf}
 use Rattle.region_check.specs.Starts.{begins}
 
 unfoldable pub placeBytes : Place → List ℕ
 placeBytes p = wordBytes (p .face) ++ (wordBytes (p .i) ++ (wordBytes (p .j) ++ wordBytes (p .k)))
-
-abbrev pub facesOf : (ℕ → Place) → ℕ → ℕ
-facesOf at n = at n .face
 
 abbrev pub startBytes : (ℕ → Place) → ℕ → ℕ → List ℕ
 startBytes at count f = wordBytes (begins (facesOf at) count f)

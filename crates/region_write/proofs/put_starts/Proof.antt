@@ -9,9 +9,10 @@ use Rattle.words.specs.Words.{wordBytes}
 use Rattle.words.specs.Rows.{rowsTo, Filled}
 use Rattle.words.proofs.Words.{bytes-length}
 use Rattle.words.proofs.Placing.{rows-more}
+use Rattle.region_check.specs.Sound.{facesOf}
 use Rattle.region_check.specs.Starts.{begins}
 use Rattle.region_write.specs.Signed.{placeIn}
-use Rattle.region_write.specs.Files.{facesOf, startBytes}
+use Rattle.region_write.specs.Files.{startBytes}
 use Rattle.region_write.proofs.put_starts.Statement.{statement}
 use Rattle.region_write.proofs.put_starts.Tie as tie
 
