@@ -1,5 +1,6 @@
 /*
- * Heddleplume: which hexagon of which face of the icosahedron a place on Earth lies in, and the border of that hexagon.
+ * Heddleplume: which hexagon of which face of the icosahedron a place on Earth lies in, the border of that hexagon, and how near to it the
+ * place was.
  * C99, usable from C++. Link with target/staticlib/libheddleplume.a (x86-64), which `rt staticlib heddleplume` writes;
  * it needs no library but C's own.
  *
@@ -25,6 +26,12 @@
  * rows for one, a wrong place gets 15; and of a list that has not passed its check heddleplume_region_record gives out what is there.)
  * A cell level is 0..15. A grid level is even, 0..16: an odd cell level is raised by one.
  *
+ * Leftovers are the two doubles r1 and r2 by which a plane point's hexagon is chosen, each at least 0 and below 1, never minus zero. With
+ * x2 = |y| * 1.1547005383792515 and x1 = |x| + x2 / 2, each operation rounded, r1 is x1 and r2 is x2 without its whole part. The whole
+ * parts lead to four centres of hexagons, and the leftovers alone say which of the four is taken. So they say how near the line a point
+ * was, and heddleplume_margin puts that into one number. They do not say which neighbour is near: (x, y), (-x, y), (x, -y) and (-x, -y)
+ * have the same.
+ *
  * Every entry of the library that answers a question is a function here. Left out, since a caller loses nothing: the tests alone (each
  * function tests what it is given), the constructors and the dot product, the form of settling that changes a lent place, and the texts
  * of `walk` and `ask`.
@@ -49,8 +56,8 @@ enum heddleplume_refusal {
     HEDDLEPLUME_BAD_ROWS = 2,      /* a wrong length, or the rows do not fit: lend the lengths stated */
     HEDDLEPLUME_BAD_FACE = 3,      /* a face above 19 */
     HEDDLEPLUME_BAD_LEVEL = 4,     /* a cell level above 15; a grid level that is odd or above 16 */
-    HEDDLEPLUME_BAD_RANGE = 5,     /* an edge not 1..3, a map not 1..5, a start or length of a border out of range, or a record number that
-                                      is not below the count */
+    HEDDLEPLUME_BAD_RANGE = 5,     /* an edge not 1..3, a map not 1..5, a start or length of a border out of range, a record number that
+                                      is not below the count, or a leftover that is not at least 0 and below 1 */
     HEDDLEPLUME_BAD_NUMBER = 6,    /* a NaN or an infinity: the receiver has no fix, do not switch its feed. Also a root of a number below
                                       0, and a point on the sphere whose length is not finite or whose face has a u of length 0 */
     HEDDLEPLUME_OFF_SPHERE = 7,    /* the vector's length is not 1: divide the vector by its length first */
@@ -79,6 +86,8 @@ enum heddleplume_length {
     HEDDLEPLUME_COORD_LEN = 3,          /* numbers: i j k */
     HEDDLEPLUME_GRID_LEN = 3,           /* numbers: unit scale, limit, 1 for a substrate grid or 0 */
     HEDDLEPLUME_PLACE_LEN = 4,          /* numbers: face i j k */
+    HEDDLEPLUME_LEFT_LEN = 2,           /* doubles: the leftovers r1 r2 */
+    HEDDLEPLUME_MARGIN_LEN = 1,         /* doubles: the margin */
     HEDDLEPLUME_CROSS_LEN = 5,          /* numbers: face i j k, and an enum heddleplume_overage */
     HEDDLEPLUME_SETTLE_LEN = 5,         /* numbers: face i j k, and the number of steps */
     HEDDLEPLUME_CORNERS_LEN = 19,       /* numbers: the grid level, then i j k six times */
@@ -146,14 +155,14 @@ uint32_t heddleplume_plane_point(const double *frame, size_t frame_len, uint32_t
                                  double *out, size_t out_len);
 
 /*
- * The place of a unit vector at a cell level.
- * Writes out[0..3]: face i j k. Refusals: 1, 2, 4, 6, 7, 8.
+ * The place of a unit vector at a cell level, and the leftovers of its plane point on that face.
+ * Writes out[0..3]: face i j k; left[0..1]: r1 r2. Refusals: 1, 2 (either is too short), 4, 6, 7, 8.
  */
 uint32_t heddleplume_place(const double *frame, size_t frame_len, double x, double y, double z, uint32_t level, uint32_t *out,
-                           size_t out_len);
+                           size_t out_len, double *left, size_t left_len);
 
 /*
- * The places of n unit vectors, x y z one after the other, input_len = 3n, into rows of four numbers.
+ * The places of n unit vectors, x y z one after the other, input_len = 3n, into rows of four numbers, without leftovers.
  * Writes row first + k for vector k, that is out[4 * (first + k)] and the three after it: face i j k; or, if the vector is refused,
  * minus the refusal (6, 7 or 8), 0, 0, 0, never what the row held before. All other rows stay. refused[0] is the number of refused rows.
  * Refusals of the whole batch, which write no row: 1, 2, 4. Besides for a short `refused` 2 is given if input_len is no multiple of 3,
@@ -191,10 +200,25 @@ uint32_t heddleplume_map(uint32_t map, uint32_t i, uint32_t j, uint32_t k, uint3
 /* ---- On the plane of a face ---- */
 
 /*
- * The hexagon of a plane point.
- * Writes out[0..2]: i j k. Refusals: 2, 6, 9.
+ * The hexagon of a plane point, and the leftovers by which it was chosen.
+ * Writes out[0..2]: i j k; left[0..1]: r1 r2. Refusals: 2 (either is too short), 6, 9.
  */
-uint32_t heddleplume_round(double x, double y, uint32_t *out, size_t out_len);
+uint32_t heddleplume_round(double x, double y, uint32_t *out, size_t out_len, double *left, size_t left_len);
+
+/*
+ * How far the point with these leftovers was from the nearest border of its hexagon, in hexagons: the distance between the centres of
+ * neighbouring hexagons is 1, so 0 is on the border and 0.5, the most, at the centre. Switch a feed only where the new place has some
+ * margin, say 0.05: it then does not flicker along a border, as long as positions jitter by less.
+ *
+ * - It differs by less than 2^-51 from the same number worked out exactly of r1 and r2. On the border itself it may lie below 0, since
+ *   the tests of the rounding are rounded and leftovers are cut here; it is never below -2^-40.
+ * - It is no distance on Earth: it is measured on the plane of the face, and hexagons differ in size. One of level 9 is about 350 m from
+ *   centre to centre.
+ * - It sees the borders of hexagons, not the edges of faces. Over an edge the same hexagon is named from another face, whatever the margin.
+ *
+ * Writes out[0]. Refusals: 2, 5.
+ */
+uint32_t heddleplume_margin(double r1, double r2, double *out, size_t out_len);
 
 /*
  * The centre of a hexagon.

@@ -57,16 +57,32 @@ static void divide_by_length(const double reported[3], double unit[3])
         unit[part] = reported[part] / length;
 }
 
-static void ask_alone(const double *frame, int receiver, const double unit[3])
+/* How near the line a receiver is: 0 on the border of its hexagon, 0.5 at the centre. */
+static void say_margin(const double left[HEDDLEPLUME_LEFT_LEN])
 {
-    uint32_t place[HEDDLEPLUME_PLACE_LEN];
-    uint32_t refusal = heddleplume_place(frame, HEDDLEPLUME_FRAME_LEN, unit[0], unit[1], unit[2], LEVEL, place, HEDDLEPLUME_PLACE_LEN);
-    printf("receiver %d: ", receiver + 1);
-    /* The number first: after a refusal `place` holds nothing of this receiver's. */
+    double margin[HEDDLEPLUME_MARGIN_LEN];
+    uint32_t refusal = heddleplume_margin(left[0], left[1], margin, HEDDLEPLUME_MARGIN_LEN);
     if (refusal != HEDDLEPLUME_NO_REFUSAL)
         say_refused(refusal);
     else
-        say_place(place[0], place[1], place[2], place[3]);
+        printf("  %.3f of a hexagon from its border\n", margin[0]);
+}
+
+/* Asked alone, a receiver's leftovers also say how near the line it is. */
+static void ask_alone(const double *frame, int receiver, const double unit[3])
+{
+    uint32_t place[HEDDLEPLUME_PLACE_LEN];
+    double left[HEDDLEPLUME_LEFT_LEN];
+    uint32_t refusal = heddleplume_place(frame, HEDDLEPLUME_FRAME_LEN, unit[0], unit[1], unit[2], LEVEL, place, HEDDLEPLUME_PLACE_LEN,
+                                         left, HEDDLEPLUME_LEFT_LEN);
+    printf("receiver %d: ", receiver + 1);
+    /* The number first: after a refusal `place` and `left` hold nothing of this receiver's. */
+    if (refusal != HEDDLEPLUME_NO_REFUSAL) {
+        say_refused(refusal);
+        return;
+    }
+    say_place(place[0], place[1], place[2], place[3]);
+    say_margin(left);
 }
 
 static void say_row(int receiver, const int32_t row[HEDDLEPLUME_ROW_LEN])

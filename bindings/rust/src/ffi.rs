@@ -10,13 +10,14 @@ mod c {
         pub fn heddleplume_frame(out: *mut f64, out_len: usize) -> u32;
         pub fn heddleplume_nearest(frame: *const f64, frame_len: usize, x: f64, y: f64, z: f64, face: *mut u32, face_len: usize, distance: *mut f64, distance_len: usize) -> u32;
         pub fn heddleplume_plane_point(frame: *const f64, frame_len: usize, face: u32, level: u32, x: f64, y: f64, z: f64, out: *mut f64, out_len: usize) -> u32;
-        pub fn heddleplume_place(frame: *const f64, frame_len: usize, x: f64, y: f64, z: f64, level: u32, out: *mut u32, out_len: usize) -> u32;
+        pub fn heddleplume_place(frame: *const f64, frame_len: usize, x: f64, y: f64, z: f64, level: u32, out: *mut u32, out_len: usize, left: *mut f64, left_len: usize) -> u32;
         pub fn heddleplume_batch(frame: *const f64, frame_len: usize, level: u32, input: *const f64, input_len: usize, out: *mut i32, out_len: usize, first: usize, refused: *mut u64, refused_len: usize) -> u32;
         pub fn heddleplume_raise(level: u32, out: *mut u32, out_len: usize) -> u32;
         pub fn heddleplume_grid(level: u32, substrate: bool, out: *mut u32, out_len: usize) -> u32;
         pub fn heddleplume_reduce(i: u32, j: u32, k: u32, out: *mut u32, out_len: usize) -> u32;
         pub fn heddleplume_map(map: u32, i: u32, j: u32, k: u32, out: *mut u32, out_len: usize) -> u32;
-        pub fn heddleplume_round(x: f64, y: f64, out: *mut u32, out_len: usize) -> u32;
+        pub fn heddleplume_round(x: f64, y: f64, out: *mut u32, out_len: usize, left: *mut f64, left_len: usize) -> u32;
+        pub fn heddleplume_margin(r1: f64, r2: f64, out: *mut f64, out_len: usize) -> u32;
         pub fn heddleplume_centre(i: u32, j: u32, k: u32, out: *mut f64, out_len: usize) -> u32;
         pub fn heddleplume_meet(lines: *const f64, lines_len: usize, out: *mut f64, out_len: usize) -> u32;
         pub fn heddleplume_alike(x: f64, y: f64, other_x: f64, other_y: f64, out: *mut u32, out_len: usize) -> u32;
@@ -60,9 +61,10 @@ pub fn plane_point(frame: &[f64], face: u32, level: u32, [x, y, z]: [f64; 3], ou
     unsafe { c::heddleplume_plane_point(frame.as_ptr(), frame.len(), face, level, x, y, z, out.as_mut_ptr(), out.len()) }
 }
 
-pub fn place(frame: &[f64], [x, y, z]: [f64; 3], level: u32, out: &mut [u32]) -> u32 {
-    // SAFETY: two slices, each with its own length.
-    unsafe { c::heddleplume_place(frame.as_ptr(), frame.len(), x, y, z, level, out.as_mut_ptr(), out.len()) }
+pub fn place(frame: &[f64], [x, y, z]: [f64; 3], level: u32, out: &mut [u32], left: &mut [f64]) -> u32 {
+    let (frame, frames) = (frame.as_ptr(), frame.len());
+    // SAFETY: three slices, each with its own length.
+    unsafe { c::heddleplume_place(frame, frames, x, y, z, level, out.as_mut_ptr(), out.len(), left.as_mut_ptr(), left.len()) }
 }
 
 pub fn batch(frame: &[f64], level: u32, input: &[f64], out: &mut [i32], first: usize, refused: &mut [u64]) -> u32 {
@@ -94,9 +96,14 @@ pub fn map(map: u32, [i, j, k]: [u32; 3], out: &mut [u32]) -> u32 {
     unsafe { c::heddleplume_map(map, i, j, k, out.as_mut_ptr(), out.len()) }
 }
 
-pub fn round(x: f64, y: f64, out: &mut [u32]) -> u32 {
+pub fn round(x: f64, y: f64, out: &mut [u32], left: &mut [f64]) -> u32 {
+    // SAFETY: two slices, each with its own length.
+    unsafe { c::heddleplume_round(x, y, out.as_mut_ptr(), out.len(), left.as_mut_ptr(), left.len()) }
+}
+
+pub fn margin(r1: f64, r2: f64, out: &mut [f64]) -> u32 {
     // SAFETY: a slice with its own length.
-    unsafe { c::heddleplume_round(x, y, out.as_mut_ptr(), out.len()) }
+    unsafe { c::heddleplume_margin(r1, r2, out.as_mut_ptr(), out.len()) }
 }
 
 pub fn centre([i, j, k]: [u32; 3], out: &mut [f64]) -> u32 {

@@ -18,9 +18,10 @@
 //! assert_eq!(Refusal::BadNumber.to_string(), "refused 6 BadNumber: the receiver has no fix, keep its feed");
 //! ```
 //!
-//! One vector alone is asked with [`locate`]; [`locate_each`] gives a batch as results of its own. Places move from face to face by the
-//! methods of [`FaceIJK`], which also has the corners and borders of cells, on the plane of a face and on the sphere. Whether a place is in
-//! a region, a [`Region`] says, which is read from a file and checked.
+//! One vector alone is asked with [`locate`], which also gives its [`Leftovers`]: how near the border of its hexagon it lies.
+//! [`locate_each`] gives a batch as results of its own. Places move from face to face by the methods of [`FaceIJK`], which also has the
+//! corners and borders of cells, on the plane of a face and on the sphere. Whether a place is in a region, a [`Region`] says, which is read
+//! from a file and checked.
 #![deny(unsafe_code, missing_docs)]
 #![warn(clippy::undocumented_unsafe_blocks)]
 
@@ -28,6 +29,7 @@ mod answered;
 mod borders;
 #[allow(unsafe_code)]
 mod ffi;
+mod left;
 mod levels;
 mod places;
 mod plane;
@@ -36,9 +38,10 @@ pub mod region;
 mod sphere;
 
 pub use borders::{Border, Boundary, BoundaryPoint, Corners, Mark, SphereBoundary, SpherePoint};
+pub use left::Leftovers;
 pub use levels::{CellLevel, Grid, GridLevel, Sizes};
 pub use places::{Direction, FaceIJK, Landed, Overage, Rested, face_direction};
-pub use plane::{CoordIJK, GridMap, Vec2d};
+pub use plane::{CoordIJK, GridMap, Rounded, Vec2d};
 pub use refusal::Refusal;
 pub use region::Region;
-pub use sphere::{Frame, Vec3d, locate, locate_all, locate_each, plane_point, read_row, sphere_point, square_root};
+pub use sphere::{Frame, Located, Vec3d, locate, locate_all, locate_each, plane_point, read_row, sphere_point, square_root};

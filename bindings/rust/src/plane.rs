@@ -1,6 +1,6 @@
 //! Points and hexagons on the plane of a face.
 use crate::answered::{answered, yes_or_no};
-use crate::{Refusal, ffi};
+use crate::{Leftovers, Refusal, ffi};
 
 /// Coordinates of a hexagon on its face. Reduced means that the least is 0.
 #[derive(Clone, Copy, Debug, Default, PartialEq, Eq, Hash)]
@@ -64,13 +64,22 @@ impl GridMap {
     }
 }
 
-/// The hexagon of a plane point. Refusals: 6, 9.
+/// The hexagon of a plane point, without its leftovers. Refusals: 6, 9.
 impl TryFrom<Vec2d> for CoordIJK {
     type Error = Refusal;
 
     fn try_from(point: Vec2d) -> Result<CoordIJK, Refusal> {
-        point.to_ijk()
+        Ok(point.to_ijk()?.hexagon)
     }
+}
+
+/// The hexagon of a plane point, and what was left over.
+#[derive(Clone, Copy, Debug, PartialEq)]
+pub struct Rounded {
+    /// The hexagon.
+    pub hexagon: CoordIJK,
+    /// The leftovers by which it was chosen.
+    pub left: Leftovers,
 }
 
 /// A point on the plane of a face.
@@ -88,11 +97,23 @@ impl Vec2d {
         Vec2d { x, y }
     }
 
-    /// The hexagon of the point. Refusals: 6, 9.
-    pub fn to_ijk(self) -> Result<CoordIJK, Refusal> {
-        let mut out = [0; 3];
-        answered(ffi::round(self.x, self.y, &mut out))?;
-        Ok(CoordIJK::new(out[0], out[1], out[2]))
+    /// The hexagon of the point, and the leftovers by which it was chosen. For the hexagon alone there is [`CoordIJK::try_from`].
+    /// Refusals: 6, 9.
+    ///
+    /// ```
+    /// use heddleplume::{CoordIJK, Leftovers, Refusal, Vec2d};
+    ///
+    /// // A quarter of the way from one centre to the next, and so a quarter from the border between them.
+    /// let rounded = Vec2d::new(0.25, 0.0).to_ijk()?;
+    /// assert_eq!(rounded.hexagon, CoordIJK::new(0, 0, 0));
+    /// assert_eq!(rounded.left, Leftovers { r1: 0.25, r2: 0.0 });
+    /// assert_eq!(rounded.left.margin(), Ok(0.25));
+    /// # Ok::<(), Refusal>(())
+    /// ```
+    pub fn to_ijk(self) -> Result<Rounded, Refusal> {
+        let (mut out, mut left) = ([0; 3], [0.0; 2]);
+        answered(ffi::round(self.x, self.y, &mut out, &mut left))?;
+        Ok(Rounded { hexagon: CoordIJK::new(out[0], out[1], out[2]), left: left.into() })
     }
 
     /// Whether both parts of the two points differ by at most 2^-23, the tolerance of borders. Refusals: 6.

@@ -15,7 +15,8 @@ pub enum Refusal {
     BadFace = 3,
     /// A cell level above 15; a grid level that is odd or above 16.
     BadLevel = 4,
-    /// An edge that is none of the three, a start or length of a border out of range, or a record number that is not below the count.
+    /// An edge that is none of the three, a start or length of a border out of range, a record number that is not below the count, or a
+    /// leftover that is not at least 0 and below 1.
     BadRange = 5,
     /// A NaN or an infinity; the root of a number below 0; a point on the sphere whose length is not finite.
     BadNumber = 6,
@@ -76,7 +77,10 @@ impl Refusal {
             Refusal::BadRows => "lend slices of the lengths stated",
             Refusal::BadFace => "pass a face 0..19",
             Refusal::BadLevel => "pass a cell level 0..15 or an even grid level 0..16",
-            Refusal::BadRange => "pass an edge IJ, KI or JK, a start and length that the cell has, a record number below the count",
+            Refusal::BadRange => {
+                "pass an edge IJ, KI or JK, a start and length that the cell has, a record number below the count, leftovers as a \
+                 rounding gave them"
+            }
             Refusal::BadNumber => "the receiver has no fix, keep its feed",
             Refusal::OffSphere => "divide the vector by its length first",
             Refusal::Behind => "the frame is no icosahedron, load the frame again",

@@ -1,6 +1,6 @@
 //! The frame of twenty faces, and where a unit vector lies in it, alone and as a batch; and the way back, from a face's plane to the sphere.
 use crate::answered::answered;
-use crate::{CellLevel, FaceIJK, GridLevel, Refusal, Vec2d, ffi};
+use crate::{CellLevel, FaceIJK, GridLevel, Leftovers, Refusal, Vec2d, ffi};
 
 /// A vector from the centre of the Earth. Of unit length, or it gets [`Refusal::OffSphere`].
 #[derive(Clone, Copy, Debug, PartialEq)]
@@ -103,22 +103,37 @@ pub fn square_root(x: f64) -> Result<f64, Refusal> {
     Ok(out[0])
 }
 
-/// The place of a unit vector. Refusals: 4, 6, 7, 8.
+/// The place of a unit vector, and what was left over.
+#[derive(Clone, Copy, Debug, PartialEq)]
+pub struct Located {
+    /// The place.
+    pub place: FaceIJK,
+    /// The leftovers of its plane point on that face, by which the hexagon was chosen.
+    pub left: Leftovers,
+}
+
+/// The place of a unit vector, and the leftovers, which say how near the border of its hexagon it lies. Refusals: 4, 6, 7, 8.
 ///
 /// ```
-/// use heddleplume::{CellLevel, Frame, Refusal, locate};
+/// use heddleplume::{CellLevel, FaceIJK, Frame, Refusal, locate};
 /// let frame = Frame::default();
+/// let located = locate(&frame, CellLevel(9), [0.6, 0.0, 0.8])?;
+/// assert_eq!(located.place, FaceIJK::new(3, 9433, 0, 4829));
+/// // Its border is about a tenth of a hexagon away.
+/// assert!((located.left.margin()? - 0.1).abs() < 0.01);
 /// // Three zeros divided by their length.
 /// assert_eq!(locate(&frame, CellLevel(9), [0.0 / 0.0; 3]), Err(Refusal::BadNumber));
+/// # Ok::<(), Refusal>(())
 /// ```
-pub fn locate(frame: &Frame, level: CellLevel, vector: impl Into<[f64; 3]>) -> Result<FaceIJK, Refusal> {
-    let mut out = [0; 4];
-    answered(ffi::place(&frame.0, vector.into(), level.0, &mut out))?;
-    Ok(out.into())
+pub fn locate(frame: &Frame, level: CellLevel, vector: impl Into<[f64; 3]>) -> Result<Located, Refusal> {
+    let (mut out, mut left) = ([0; 4], [0.0; 2]);
+    answered(ffi::place(&frame.0, vector.into(), level.0, &mut out, &mut left))?;
+    Ok(Located { place: out.into(), left: left.into() })
 }
 
 /// The places of a batch into lent rows: row `first + n` is written for vector n, and no other. It holds face, i, j, k; or, if the vector
-/// is refused, minus the refusal (6, 7 or 8), 0, 0, 0, never what it held before. Returns how many rows were refused.
+/// is refused, minus the refusal (6, 7 or 8), 0, 0, 0, never what it held before. Returns how many rows were refused. A row has no
+/// leftovers: [`locate`] gives them.
 ///
 /// Refusals of the whole batch, which write no row: 2 if the rows from `first` on are fewer than the vectors, 4.
 pub fn locate_all(frame: &Frame, level: CellLevel, vectors: &[[f64; 3]], rows: &mut [[i32; 4]], first: usize) -> Result<usize, Refusal> {

@@ -18,7 +18,7 @@ fn rounding() {
         ((-0.9, -0.9), (0, 0, 1)),
     ];
     for ((x, y), (i, j, k)) in places {
-        assert_eq!(Vec2d::new(x, y).to_ijk(), Ok(CoordIJK::new(i, j, k)), "({x}, {y})");
+        assert_eq!(Vec2d::new(x, y).to_ijk().map(|rounded| rounded.hexagon), Ok(CoordIJK::new(i, j, k)), "({x}, {y})");
         assert_eq!(CoordIJK::try_from(Vec2d::new(x, y)), Ok(CoordIJK::new(i, j, k)));
     }
     assert_eq!(Vec2d::new(33554432.0, 0.0).to_ijk(), Err(Refusal::TooFar));
@@ -29,7 +29,7 @@ fn centres_round_to_their_hexagon() {
     assert_eq!(CoordIJK::new(0, 2, 0).centre(), Ok(Vec2d::new(-1.0, 2.0 * 0.8660254037844386)));
     for (i, j, k) in [(0, 0, 0), (5, 3, 0), (0, 7, 2), (9, 0, 4)] {
         let hexagon = CoordIJK::new(i, j, k);
-        assert_eq!(hexagon.centre().and_then(Vec2d::to_ijk), Ok(hexagon));
+        assert_eq!(hexagon.centre().and_then(CoordIJK::try_from), Ok(hexagon));
     }
 }
 

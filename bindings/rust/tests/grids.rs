@@ -1,5 +1,6 @@
 //! Levels, maps and plane points, through the safe functions.
-use heddleplume::{CellLevel, CoordIJK, Frame, Grid, GridLevel, GridMap, Refusal, Sizes, Vec2d, Vec3d, locate, plane_point};
+use heddleplume::{CellLevel, CoordIJK, Frame, Grid, GridLevel, GridMap, Located, Refusal, Rounded, Sizes, Vec2d, Vec3d};
+use heddleplume::{locate, plane_point};
 
 #[test]
 fn odd_levels_are_raised() {
@@ -52,8 +53,8 @@ fn a_place_is_its_plane_point_rounded() {
         let (face, _) = Vec3d::from(vector).closest_face(&frame).unwrap();
         for level in 0..16 {
             let point = plane_point(&frame, face, CellLevel(level), vector).unwrap();
-            let place = locate(&frame, CellLevel(level), vector).unwrap();
-            assert_eq!((place.face, Ok(place.coord())), (face, point.to_ijk()));
+            let Located { place, left } = locate(&frame, CellLevel(level), vector).unwrap();
+            assert_eq!((place.face, Ok(Rounded { hexagon: place.coord(), left })), (face, point.to_ijk()));
         }
     }
     assert_eq!(plane_point(&frame, 20, CellLevel(16), [f64::NAN; 3]), Err(Refusal::BadFace));

@@ -63,7 +63,7 @@ fn from_rattle(parameter: &str) -> Vec<String> {
 #[test]
 fn header_and_crate_declare_the_same() {
     let header = prototypes(HEADER, "uint32_t", from_c);
-    assert_eq!(header.len(), 31);
+    assert_eq!(header.len(), 32);
     assert_eq!(header, prototypes(OURS, "fn", from_rust));
 }
 

@@ -57,7 +57,7 @@ fn each_centre_is_nearest_to_its_own_face() {
     for (face, axes) in frame.as_array().chunks(9).enumerate() {
         let centre = Vec3d::new(axes[0], axes[1], axes[2]);
         assert_eq!(centre.closest_face(&frame), Ok((face as u32, 0.0)));
-        assert_eq!(locate(&frame, CellLevel(15), centre), Ok(FaceIJK::new(face as u32, 0, 0, 0)));
+        assert_eq!(locate(&frame, CellLevel(15), centre).map(|located| located.place), Ok(FaceIJK::new(face as u32, 0, 0, 0)));
     }
 }
 
@@ -160,7 +160,7 @@ fn no_fix_between_two_good_ones() {
     let old = [7, 0, 1, 1];
     let mut rows = [old; 5];
     assert_eq!(locate_all(&frame, CellLevel(9), &vectors, &mut rows, 1), Ok(1));
-    let alone = vectors.map(|vector| locate(&frame, CellLevel(9), vector));
+    let alone = vectors.map(|vector| locate(&frame, CellLevel(9), vector).map(|located| located.place));
     assert_eq!(alone[1], Err(Refusal::BadNumber));
     assert_eq!((rows[0], rows[2], rows[4]), (old, [-6, 0, 0, 0], old));
     for (row, answer) in rows[1..4].iter().zip(alone) {

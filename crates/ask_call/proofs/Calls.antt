@@ -1,16 +1,15 @@
 -- What each function of the C face gives lies in an answer as its question's kinds say. Assumes nothing.
 use mathlib.Core.Path.{_≡_, refl, _∙_}
-use mathlib.Core.Bool.{Bool, true, _||_}
+use mathlib.Core.Bool.{Bool, true, false, _||_}
 use mathlib.Core.List.{List, [], _∷_}
 use Prim.Native.Nat.{ℕ, _≤_}
 use lib.Dec.{lit≤}
 use lib.Ieee.{Float, binary64, toBits}
-use lib.ListN.{take, drop}
 use Rattle.reply.specs.Choice.{pick}
 use Rattle.reply.specs.declared.Refusal.the-variants.{BadFace}
 use Rattle.reply.specs.Replies.{first, when, zeros}
 use Rattle.coordijk.specs.declared.CoordIJK.{CoordIJK}
-use Rattle.coordijk.specs.Coordinates.{coordValues, verdictOf}
+use Rattle.coordijk.specs.Coordinates.{verdictOf}
 use Rattle.coordijk.specs.Maps.{mapOf}
 use Rattle.level.specs.Levels.{gridOf, raisedOf}
 use Rattle.faceijk.specs.declared.Place.{Place}
@@ -22,36 +21,32 @@ use Rattle.faceijk.specs.Entries.{turnMap, turnReply, badEdge, stepReply, lande
 use Rattle.names.specs.Row.{sameOf, firstOf}
 use Rattle.names.specs.Entries.{namesVerdict, firstReply, sameReply}
 use Rattle.vec2d.specs.declared.Vec2d.{Vec2d}
+use Rattle.vec2d.specs.declared.Leftovers.{Leftovers}
 use Rattle.vec2d.specs.declared.Line.{Line}
-use Rattle.vec2d.specs.Rounding.{roundVerdict, nearestOf, roundReply}
+use Rattle.vec2d.specs.Rounding.{roundVerdict, nearestOf, leftoversOf, leftValues, foundOf, foundValues, roundReply}
 use Rattle.vec2d.specs.Centre.{centreOf, centreReply}
 use Rattle.vec2d.specs.Meeting.{meetVerdict, meetReply}
 use Rattle.vec2d.specs.Meeting.{crossingOf as meetingOf}
 use Rattle.vec3d.specs.declared.Vec3d.{Vec3d}
 use Rattle.vec3d.specs.Frame.{faceAt, badFrame}
 use Rattle.vec3d.specs.Nearest.{nearestVerdict, nearestValues, nearestTo, nearestReply}
-use Rattle.locate.specs.Locating.{locateVerdict, placeOf, locateReply}
+use Rattle.locate.specs.Locating.{locateVerdict, spotOf, spotValues, locateReply}
 use Rattle.boundary.specs.Corners.{cornersVerdict, coordsValues, cornersAt, sixCorners, cornersReply}
 use Rattle.boundary.specs.Boundaries.{boundaryReply}
 use Rattle.root.specs.Root.{rootVerdict, rootOf, rootReply}
 use Rattle.globe.specs.Points.{scaleOf, sphereOf, sphereVerdict, vectorValues, sphereReply}
 use Rattle.globe.specs.Boundaries.{globeReply}
-use Rattle.lent.specs.Lent.{held, Gives, GivesFramed}
-use Rattle.lent_places.specs.Places.{GivesNearest}
+use Rattle.lent.specs.Lent.{held, Gives, GivesFramed, GivesParts}
 use Rattle.lent_borders.specs.Borders.{marksOf, pointsOf, GivesBoundary}
 use Rattle.lent_globe.specs.Globes as sphere
 use Rattle.lent_globe.specs.Globes.{GivesGlobe}
 use Rattle.ask_read.specs.declared.Asked.the-variants.{Round, Centre, Meet, Turn, Step, Cross, Settle, Direction, Same, Nearest, Corners, Root, Sphere, First}
 use Rattle.ask_read.specs.declared.Asked.{Asked}
 use Rattle.ask_call.specs.Replies.{kindsOf, numbersIn, doublesIn, Holds}
-use Rattle.ask_call.proofs.Holding.{nothing, number as front, double, holds, numbers, doubles, gives, gives-doubles, framed}
+use Rattle.ask_call.proofs.Holding.{Parted, nothing, number as front, double, doubles, gives, gives-doubles, gives-parts, framed}
 use Rattle.ask_call.proofs.Bordering.{pointKinds, border, globe, globe-framed}
 
 module _ {k : ℕ} {out ns ds : List ℕ} (clear : out ≡ zeros 25) (none : ds ≡ zeros 36) where
-  pub round : (p : Vec2d) → Gives 3 (roundReply p) out ns k → Holds Round (roundReply p) k ns ds
-  unfolding numbersIn doublesIn
-  round p = gives Round 3 (roundVerdict p) (coordValues (nearestOf p)) refl refl refl refl (lit≤ tt) clear none
-
   pub turn : (p : Place) (clockwise : Bool) → Gives 4 (turnReply p clockwise) out ns k → Holds Turn (turnReply p clockwise) k ns ds
   unfolding numbersIn doublesIn
   turn p clockwise =
@@ -90,14 +85,6 @@ module _ {k : ℕ} {out ns ds : List ℕ} (clear : out ≡ zeros 25) (none : ds 
   corners p l =
       gives Corners 19 (cornersVerdict p l) (raisedOf l ∷ coordsValues (cornersAt (coordOf p) l)) refl refl refl refl (lit≤ tt) clear none
 
-  pub place-of : (s : List Float) (l : ℕ) (p : Vec3d) → GivesFramed (badFrame s) 4 (locateReply s l p) out ns k → Holds Asked.Place (locateReply s l p) k ns ds
-  unfolding numbersIn doublesIn
-  place-of s l p g =
-      let r = locateReply s l p in
-      let number : k ≡ r .number = (rw clear at (g .number)) ∙ framed (badFrame s) 4 _ (placeValues (placeOf s l p)) in
-      let so : ns ≡ held k 4 (r .values) (zeros 25) = rw clear at (g .values) in
-      numbers Asked.Place 4 (locateVerdict s l p) (placeValues (placeOf s l p)) refl refl refl refl number so none
-
 module _ {k : ℕ} {out ns ds : List ℕ} (clear : ns ≡ zeros 25) (none : out ≡ zeros 36) where
   pub centre : (c : CoordIJK) → Gives 2 (centreReply c) out ds k → Holds Centre (centreReply c) k ns ds
   unfolding numbersIn doublesIn
@@ -122,17 +109,33 @@ module _ {k : ℕ} {out ns ds : List ℕ} (clear : ns ≡ zeros 25) (none : out 
       let so : ds ≡ held k 3 (r .values) (zeros 36) = rw none at (g .values) in
       doubles Sphere 3 (sphereVerdict s f l p) vs refl refl refl refl number so clear
 
+-- two leftovers at the end of an answer
+lefts : (l : Leftovers) → Parted (120 ∷ 120 ∷ []) (leftValues l) [] (leftValues l)
+lefts l = double 120 (toBits binary64 (l .r1)) refl (double 120 (toBits binary64 (l .r2)) refl nothing)
+
 module _ {k : ℕ} {words ns doubles₀ ds : List ℕ} (clear : words ≡ zeros 25) (none : doubles₀ ≡ zeros 36) where
-  pub nearest : (s : List Float) (p : Vec3d) → GivesNearest s p words ns doubles₀ ds k → Holds Nearest (nearestReply s p) k ns ds
+  pub round : (p : Vec2d) → GivesParts false 3 2 (roundReply p) words ns doubles₀ ds k → Holds Round (roundReply p) k ns ds
   unfolding numbersIn doublesIn
-  nearest s p g =
-      let r = nearestReply s p in
+  round p =
+      let c = nearestOf p in
+      gives-parts Round false 5 3 2 (roundVerdict p) (foundValues (foundOf p)) refl refl refl (lit≤ tt) (lit≤ tt)
+      (front 110 (c .i) refl (front 110 (c .j) refl (front 110 (c .k) refl (lefts (leftoversOf p))))) refl clear none
+
+  pub place-of : (s : List Float) (l : ℕ) (p : Vec3d) → GivesParts (badFrame s) 4 2 (locateReply s l p) words ns doubles₀ ds k → Holds Asked.Place (locateReply s l p) k ns ds
+  unfolding numbersIn doublesIn
+  place-of s l p =
+      let t = spotOf s l p in
+      let c = t .place in
+      gives-parts Asked.Place (badFrame s) 6 4 2 (locateVerdict s l p) (spotValues t) refl refl refl (lit≤ tt) (lit≤ tt)
+      (front 110 (c .face) refl (front 110 (c .i) refl (front 110 (c .j) refl (front 110 (c .k) refl (lefts (t .left))))))
+      (framed (badFrame s) 6 _ (spotValues t)) clear none
+
+  pub nearest : (s : List Float) (p : Vec3d) → GivesParts (badFrame s) 1 1 (nearestReply s p) words ns doubles₀ ds k → Holds Nearest (nearestReply s p) k ns ds
+  unfolding numbersIn doublesIn
+  nearest s p =
       let n = nearestTo s p 19 in
-      let number : k ≡ r .number = (rw (clear, none) at (g .number)) ∙ framed (badFrame s) 2 _ (nearestValues n) in
-      let one : ns ≡ held k 1 (take 1 (r .values)) (zeros 25) = rw clear at (g .one) in
-      let other : ds ≡ held k 1 (drop 1 (r .values)) (zeros 36) = rw none at (g .other) in
-      holds Nearest 2 1 1 (nearestVerdict s p) (nearestValues n) (take 1) (drop 1) refl refl refl
-      (λ fine. front 110 (n .face) refl (double 120 (toBits binary64 (n .distance)) refl nothing)) number one other
+      gives-parts Nearest (badFrame s) 2 1 1 (nearestVerdict s p) (nearestValues n) refl refl refl (lit≤ tt) (lit≤ tt)
+      (front 110 (n .face) refl (double 120 (toBits binary64 (n .distance)) refl nothing)) (framed (badFrame s) 2 _ (nearestValues n)) clear none
 
   pub border-of : (a : Asked) (sides : ℕ) (p : Place) (l start n : ℕ) → kindsOf a ≡ 110 ∷ pointKinds 2 12 → sides ≤ 6 → GivesBoundary (boundaryReply sides p l start n) words ns doubles₀ ds k → Holds a (boundaryReply sides p l start n) k ns ds
   border-of a sides p l start n t few g =

@@ -6,7 +6,7 @@ use Prim.Native.Nat.{ℕ, zero, suc, _-_, _≤_}
 use native.Mathlib.Nat.{suc-inj}
 use native.Mathlib.Omega.{arith}
 use lib.Dec.{eqb}
-use lib.ListN.{length, getD, drop}
+use lib.ListN.{length, getD, take, drop}
 use lib.Seq.{drop-at}
 use borrow.Author.Tests.{ne-eqb, le-ltb}
 use Rattle.reply.specs.Choice.{pick}
@@ -16,7 +16,7 @@ use Rattle.reply.specs.declared.Verdict.{Verdict}
 use Rattle.reply.specs.declared.Verdict.the-variants.{Fine, Refused}
 use Rattle.reply.specs.Replies.{numberOf, refusal, reply, zeros}
 use Rattle.reply.proofs.Numbers.{number-pos}
-use Rattle.lent.specs.Lent.{held, Gives}
+use Rattle.lent.specs.Lent.{held, framedNumber, Gives, GivesParts}
 use Rattle.ask_read.specs.declared.Asked.{Asked}
 use Rattle.ask_call.specs.Replies.{kindsOf, isDouble, valuesIn, doublesIn, numbersIn, Holds}
 
@@ -153,6 +153,13 @@ module _ (asked : Asked) (n : ℕ) (v : Verdict) (vs : List ℕ) {k : ℕ} {ns d
 
   pub gives-doubles : {out : List ℕ} → numbersIn (kindsOf asked) ≡ 0 → doublesIn (kindsOf asked) ≡ n → n ≤ 36 → ns ≡ zeros 25 → out ≡ zeros 36 → Gives n (reply n v vs) out ds k → Holds asked (reply n v vs) k ns ds
   gives-doubles a b room e f g = doubles a b (rw (f, le-ltb 36 n room) at (g .number)) (rw f at (g .values)) e
+
+-- the same of a call that is lent a slice for its n numbers and one for the m doubles after them, none of which is set
+pub gives-parts : (asked : Asked) (bad : Bool) (all n m : ℕ) (v : Verdict) (vs : List ℕ) {k : ℕ} {ns ds out other : List ℕ}
+    → length (kindsOf asked) ≡ all → numbersIn (kindsOf asked) ≡ n → doublesIn (kindsOf asked) ≡ m → n ≤ 25 → m ≤ 36 → Parted (kindsOf asked) vs (take n vs) (drop n vs)
+    → framedNumber bad false (reply all v vs) ≡ reply all v vs .number → out ≡ zeros 25 → other ≡ zeros 36 → GivesParts bad n m (reply all v vs) out ns other ds k → Holds asked (reply all v vs) k ns ds
+gives-parts asked bad all n m v vs l a b room space p said e f g =
+    holds asked all n m v vs (take n) (drop n) l a b (λ fine. p) ((rw (e, f, le-ltb 25 n room, le-ltb 36 m space) at (g .number)) ∙ said) (rw e at (g .one)) (rw f at (g .other))
 
 -- ---- a lent frame: a bad one is refused first, so that its number is the reply's
 

@@ -103,7 +103,7 @@ onGrid Asked.Unreadable = false
 
 -- the kinds of an answer's values, a letter for each: n a number, x a double, o how a crossing ended, a whether two corners agree, m what a point is
 abbrev pub kindsOf : Asked → List ℕ
-kindsOf Asked.Round = text "nnn"
+kindsOf Asked.Round = text "nnnxx"
 kindsOf Asked.Centre = text "xx"
 kindsOf Asked.Meet = text "xx"
 kindsOf Asked.Turn = text "nnnn"
@@ -113,7 +113,7 @@ kindsOf Asked.Settle = text "nnnnn"
 kindsOf Asked.Direction = text "n"
 kindsOf Asked.Same = text "a"
 kindsOf Asked.Nearest = text "nx"
-kindsOf Asked.Place = text "nnnn"
+kindsOf Asked.Place = text "nnnnxx"
 kindsOf Asked.Corners = text "nnnnnnnnnnnnnnnnnnn"
 kindsOf Asked.Hexagon = text "nnxxmnxxmnxxmnxxmnxxmnxxmnxxmnxxmnxxmnxxmnxxmnxxm"
 kindsOf Asked.Pentagon = text "nnxxmnxxmnxxmnxxmnxxmnxxmnxxmnxxmnxxmnxxmnxxmnxxm"

@@ -46,7 +46,7 @@ fn call_grid(q: Question, words: &mut [u32], doubles: &mut [f64]) -> u32
     let n = q.numbers;
     let d = q.doubles;
     match asked {
-        Asked::Round => lent_grid::round(d[0], d[1], words),
+        Asked::Round => lent_grid::round(d[0], d[1], words, doubles),
         Asked::Centre => lent_grid::centre(n[0], n[1], n[2], doubles),
         Asked::Meet => call_meet(d, doubles),
         Asked::Turn => lent_grid::turn(n[0], n[1], n[2], n[3], n[4] == 1, words),
@@ -72,7 +72,7 @@ pub fn call(frame: &[f64], q: Question, words: &mut [u32], doubles: &mut [f64]) 
     match asked {
         Asked::Settle => 0,
         Asked::Nearest => lent_places::nearest(frame, d[0], d[1], d[2], words, doubles),
-        Asked::Place => lent_places::place(frame, d[1], d[2], d[3], n[0], words),
+        Asked::Place => lent_places::place(frame, d[1], d[2], d[3], n[0], words, doubles),
         Asked::Corners => lent_borders::corners(n[0], n[2], n[3], n[4], n[1], words),
         Asked::Hexagon => {
             lent_borders::hexagon(n[0], n[2], n[3], n[4], n[1], n[5], n[6], words, doubles)

@@ -31,7 +31,9 @@ fn say(text: &[u8]) -> bool {
 
 // Each question with its form, an example line and what it answers: those on the plane and of faces.
 fn say_plane_help() -> bool {
-    say(b"round X Y -- round 0.5 -0.5 -- I J K: the coordinates that a plane point rounds to\n")
+    say(
+        b"round X Y -- round 0.5 -0.5 -- I J K R1 R2: the coordinates that a plane point rounds to, and what was left over\n",
+    )
         & say(b"centre I J K -- centre 1 1 0 -- X Y: the plane point of coordinates\n")
         & say(
             b"meet X Y X Y X Y X Y -- meet 0 0 2 2 0 2 2 0 -- X Y: the meeting of two lines, each through two points\n",
@@ -64,7 +66,9 @@ fn say_place_help() -> bool {
         & say(
             b"first FACE LEVEL I J K -- first 4 0 4 0 2 -- FACE I J K: the first name of a corner, that of its lowest face\n",
         )
-        & say(b"place LEVEL X Y Z -- place 3 0 0 1 -- FACE I J K: the place of a unit vector\n")
+        & say(
+            b"place LEVEL X Y Z -- place 3 0 0 1 -- FACE I J K R1 R2: the place of a unit vector, and what was left over\n",
+        )
 }
 
 // Those of cells.

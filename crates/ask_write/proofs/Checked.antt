@@ -17,14 +17,14 @@ pub record Example : Type 0 where
 
 abbrev pub examples : List Example
 examples =
-    record { asked = Asked.Round; reply = answer (1 ∷ 0 ∷ 0 ∷ []); line = "1 0 0" } ∷
+    record { asked = Asked.Round; reply = answer (1 ∷ 0 ∷ 0 ∷ 0x3fe0_0000_0000_0000 ∷ 0 ∷ []); line = "1 0 0 3fe0000000000000 0000000000000000" } ∷
     record { asked = Asked.Cross; reply = answer (4 ∷ 3 ∷ 1 ∷ 0 ∷ 2 ∷ []); line = "4 3 1 0 NewFace" } ∷
     record { asked = Asked.Same; reply = answer (1 ∷ []); line = "yes" } ∷
     record { asked = Asked.Nearest; reply = answer (0 ∷ 0x3fb9_9a41_5f40_0000 ∷ []); line = "0 3fb99a415f400000" } ∷
     record { asked = Asked.Hexagon; reply = answer (1 ∷ 7 ∷ 0x3ff0_0000_0000_0000 ∷ 0 ∷ 2 ∷ zeros 44); line = "1 7 3ff0000000000000 0000000000000000 crossing" } ∷
     record { asked = Asked.Root; reply = answer (0x3ff6_a09e_667f_3bcd ∷ []); line = "3ff6a09e667f3bcd" } ∷
     record { asked = Asked.Globe5; reply = answer (1 ∷ 7 ∷ 0 ∷ 0x3ff0_0000_0000_0000 ∷ 0 ∷ 1 ∷ zeros 55); line = "1 7 0000000000000000 3ff0000000000000 0000000000000000 corner" } ∷
-    record { asked = Asked.Round; reply = refusal 3 TooFar; line = "refused 9 TooFar" } ∷
+    record { asked = Asked.Round; reply = refusal 5 TooFar; line = "refused 9 TooFar" } ∷
     record { asked = Asked.Unreadable; reply = refusal 0 BadLine; line = "refused 14 BadLine" } ∷
     []
 

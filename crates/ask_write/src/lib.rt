@@ -119,7 +119,7 @@ fn write_values(buf: &mut [u8], asked: Asked, a: Answer) -> usize
     ensures { λ r. ⌜ PutAt (valuesText (kindsOf asked) (valuesIn (kindsOf asked) (a .numbers) (bitsOf (a .doubles)))) (now (buf .entry)) (now (buf .exit)) 0 r × (r ≤ 1300) ⌝ }
 {
     match asked {
-        Asked::Round => write_line(buf, b"nnn", a),
+        Asked::Round => write_line(buf, b"nnnxx", a),
         Asked::Centre => write_line(buf, b"xx", a),
         Asked::Meet => write_line(buf, b"xx", a),
         Asked::Turn => write_line(buf, b"nnnn", a),
@@ -129,7 +129,7 @@ fn write_values(buf: &mut [u8], asked: Asked, a: Answer) -> usize
         Asked::Direction => write_line(buf, b"n", a),
         Asked::Same => write_line(buf, b"a", a),
         Asked::Nearest => write_line(buf, b"nx", a),
-        Asked::Place => write_line(buf, b"nnnn", a),
+        Asked::Place => write_line(buf, b"nnnnxx", a),
         Asked::Corners => write_line(buf, b"nnnnnnnnnnnnnnnnnnn", a),
         Asked::Hexagon => write_border(buf, a),
         Asked::Pentagon => write_border(buf, a),

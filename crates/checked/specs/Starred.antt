@@ -8,7 +8,7 @@ use Rattle.reply.specs.Text.{text}
 use Rattle.reply.specs.Replies.{Reply, answer, zeros}
 use Rattle.double.specs.Double.{decimal}
 use Rattle.vec2d.specs.Points.{point}
-use Rattle.vec2d.specs.Rounding.{roundReply}
+use Rattle.vec2d.specs.Rounding.{hexagonReply}
 use Rattle.faceijk.specs.declared.Place.{Place}
 use Rattle.faceijk.specs.Places.{QAt}
 use Rattle.faceijk.specs.Entries.{crossReply}
@@ -31,7 +31,7 @@ pub data Said : Type 0 where
 
 -- what the definitions say
 abbrev pub said : Question → Said
-said (round x y) = replied (roundReply (point x y))
+said (round x y) = replied (hexagonReply (point x y))
 said (cross p level substrate turn) = replied (crossReply p level substrate turn)
 said (Q p) = replied (answer (QAt p ∷ []))
 said (corners p level) = replied (cornersReply p level)

@@ -1,4 +1,4 @@
--- The leftover of a number from 0 up is exact: the remainder of its fraction. So it is at least 0 and below 1. Assumes nothing.
+-- The leftover of a number from 0 up is exact: the remainder of its fraction. So it is at least 0 and below 1, and no minus zero. Assumes nothing.
 use mathlib.Core.Path.{_≡_, refl, sym, ap, _∙_, subst}
 use mathlib.Core.Bool.{Bool, true, false, _&&_, cond, true≢false, false≢true}
 use Prim.Native.Nat.{ℕ, zero, suc, _+_, _-_, _*_, _/_, _%_, _^_, _≤_, _<_, min}
@@ -17,7 +17,7 @@ use lib.Ieee.Order.{le-of-values}
 use lib.Ieee.Positive.{num, den, den-pos}
 use lib.Ieee.Scale.{round-same}
 use lib.Ieee.Back.{round-whole}
-use Rattle.double.specs.Double.{leftOf, wholeOf, nought, one}
+use Rattle.double.specs.Double.{sizeOf, leftOf, wholeOf, nought, one}
 use Rattle.double.specs.Sizes.{Upto}
 use Rattle.double.proofs.Nonnegative.{signed, whole-le}
 
@@ -130,10 +130,18 @@ below-one (fin false m e) a c v h =
     let t : m * up e * 1 < 1 * down e = omega arith in
     lt→ltb (m * up e * 1) (1 * down e) t
 
--- A leftover is at least 0 and below 1.
+-- A value without a sign is its own size.
+unsigned : (r : Float) (a c : ℕ) → HasValue r false a c → sizeOf r ≡ r
+unsigned nan a c v = absurd v
+unsigned (inf t) a c v = absurd v
+unsigned (fin true m e) a c v = absurd (true≢false (v .0))
+unsigned (fin false m e) a c v = refl
+
+-- A leftover is at least 0 and below 1, and its sign is plus: where it is zero, it is plus zero and never minus zero.
 pub record InUnit (r : Float) : Type 0 where
   pub low : le nought r ≡ true
   pub high : lt r one ≡ true
+  pub plus : sizeOf r ≡ r
 
 pub left-range : (x : Float) → T (fits binary64 x) → Upto (2 ^ 53) x → InUnit (leftOf x)
 unfolding ofBits
@@ -144,4 +152,5 @@ left-range x f p =
     record {
       low = is-true _ (le-of-values (fin false 0 (pos 0)) (leftOf x) 0 1 a (den x) (lit< tt) (den-pos x) (refl, refl) v (omega arith));
       high = is-true _ (below-one (leftOf x) a (den x) v h);
+      plus = unsigned (leftOf x) a (den x) v;
     }

@@ -104,7 +104,10 @@ fn show_nearest(nearest: NearestFace) {
 
 fn show_located(located: Located) {
     match located {
-        Located::Done(p) => show_place(p),
+        Located::Done(found) => {
+            let p = found.place;
+            show_place(p)
+        }
         Located::Refused(refusal) => show(b" refused ", refusal.number()),
     }
 }
@@ -119,7 +122,10 @@ fn show_moved(moved: Moved) {
 // The place on the named face, beyond its edge, stepped over the edge.
 fn stepped(face: u32, edge: u32, rounded: Rounded) -> Moved {
     match rounded {
-        Rounded::Done(c) => Place::new(face, c.i, c.j, c.k).step(GridLevel(LEVEL), false, edge),
+        Rounded::Done(found) => {
+            let c = found.hexagon;
+            Place::new(face, c.i, c.j, c.k).step(GridLevel(LEVEL), false, edge)
+        }
         Rounded::Refused(refusal) => Moved::Refused(refusal),
     }
 }

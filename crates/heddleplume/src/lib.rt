@@ -1,15 +1,18 @@
 // The C face: every entry that answers a question, as a C function. It returns the refusal's number, 0 for none, and writes its values
 // into a lent slice; on a refusal it writes nothing. A slice with fewer elements than the values gets 2. The crates `lent_..` do the work.
+ghost use mathlib.Core.Bool.{false};
 ghost use Rattle.reply.specs.Replies.{answer};
 ghost use Rattle.level.specs.Levels.{raiseReply, gridReply};
 ghost use Rattle.coordijk.specs.Coordinates.{coord, reduced, coordValues};
 ghost use Rattle.faceijk.specs.Entries.{turnReply, stepReply, crossReply, settleReply, directionReply};
 ghost use Rattle.names.specs.Entries.{firstReply, sameReply};
 ghost use Rattle.vec2d.specs.Points.{point};
-ghost use Rattle.vec2d.specs.Rounding.{roundReply};
+ghost use Rattle.vec2d.specs.Rounding.{leftovers, roundReply};
 ghost use Rattle.vec2d.specs.Centre.{centreReply};
+ghost use Rattle.margin.specs.Margins.{marginReply};
 ghost use Rattle.vec2d.specs.Closeness.{alikeReply};
 ghost use Rattle.vec3d.specs.Frame.{badFrame};
+ghost use Rattle.vec3d.specs.Nearest.{nearestReply};
 ghost use Rattle.face_projection.specs.Projection.{planeReply};
 ghost use Rattle.locate.specs.Locating.{locateReply};
 ghost use Rattle.boundary.specs.Corners.{cornersReply};
@@ -20,10 +23,10 @@ ghost use Rattle.globe.specs.Boundaries.{globeReply};
 ghost use Rattle.frame.specs.Default.{defaultFrame};
 ghost use Rattle.region.specs.Entries.{readReply, hasReply};
 ghost use Rattle.region_check.specs.Checks.{checkReply};
-ghost use Rattle.lent.specs.Lent.{Gives, GivesFramed, bitsOf, at};
+ghost use Rattle.lent.specs.Lent.{Gives, GivesFramed, GivesParts, bitsOf, at};
 ghost use Rattle.lent_grid.specs.Lines.{linesReply};
 ghost use Rattle.lent_grid.specs.Numbered.{numberedReply};
-ghost use Rattle.lent_places.specs.Places.{vec, GivesNearest, GivesBatch};
+ghost use Rattle.lent_places.specs.Places.{vec, GivesBatch};
 ghost use Rattle.lent_borders.specs.Borders.{GivesBoundary};
 ghost use Rattle.lent_globe.specs.Globes.{GivesGlobe};
 ghost use Rattle.lent_regions.specs.Regions.{GivesList};
@@ -61,12 +64,20 @@ pub extern "C" fn heddleplume_map(map: u32, i: u32, j: u32, k: u32, out: &mut [u
     lent_grid::map(map, i, j, k, out)
 }
 
-// The hexagon of a plane point: i, j, k.
+// The hexagon of a plane point: i, j, k; and the leftovers by which it was chosen: r1, r2.
 #[no_mangle]
-pub extern "C" fn heddleplume_round(x: f64, y: f64, out: &mut [u32]) -> u32
-    ensures { λ r. ⌜ Gives 3 (roundReply (point x y)) (now (out .entry)) (now (out .exit)) r ⌝ }
+pub extern "C" fn heddleplume_round(x: f64, y: f64, out: &mut [u32], left: &mut [f64]) -> u32
+    ensures { λ r. ⌜ GivesParts false 3 2 (roundReply (point x y)) (now (out .entry)) (now (out .exit)) (bitsOf (now (left .entry))) (bitsOf (now (left .exit))) r ⌝ }
 {
-    lent_grid::round(x, y, out)
+    lent_grid::round(x, y, out, left)
+}
+
+// How far a point with these leftovers was from the nearest border of its hexagon, in hexagons: 0 on the border, 1/2 at the centre.
+#[no_mangle]
+pub extern "C" fn heddleplume_margin(r1: f64, r2: f64, out: &mut [f64]) -> u32
+    ensures { λ r. ⌜ Gives 1 (marginReply (leftovers r1 r2)) (bitsOf (now (out .entry))) (bitsOf (now (out .exit))) r ⌝ }
+{
+    lent_grid::margin(r1, r2, out)
 }
 
 // The centre of a hexagon: x, y.
@@ -227,7 +238,7 @@ pub extern "C" fn heddleplume_nearest(
     face: &mut [u32],
     distance: &mut [f64],
 ) -> u32
-    ensures { λ r. ⌜ GivesNearest (now (frame .entry)) (vec x y z) (now (face .entry)) (now (face .exit)) (bitsOf (now (distance .entry))) (bitsOf (now (distance .exit))) r ⌝ }
+    ensures { λ r. ⌜ GivesParts (badFrame (now (frame .entry))) 1 1 (nearestReply (now (frame .entry)) (vec x y z)) (now (face .entry)) (now (face .exit)) (bitsOf (now (distance .entry))) (bitsOf (now (distance .exit))) r ⌝ }
 {
     lent_places::nearest(frame, x, y, z, face, distance)
 }
@@ -248,7 +259,7 @@ pub extern "C" fn heddleplume_plane_point(
     lent_places::plane_point(frame, face, level, x, y, z, out)
 }
 
-// The place of a unit vector at a cell level: face, i, j, k.
+// The place of a unit vector at a cell level: face, i, j, k; and the leftovers by which its hexagon was chosen: r1, r2.
 #[no_mangle]
 pub extern "C" fn heddleplume_place(
     frame: &[f64],
@@ -257,10 +268,11 @@ pub extern "C" fn heddleplume_place(
     z: f64,
     level: u32,
     out: &mut [u32],
+    left: &mut [f64],
 ) -> u32
-    ensures { λ r. ⌜ GivesFramed (badFrame (now (frame .entry))) 4 (locateReply (now (frame .entry)) level (vec x y z)) (now (out .entry)) (now (out .exit)) r ⌝ }
+    ensures { λ r. ⌜ GivesParts (badFrame (now (frame .entry))) 4 2 (locateReply (now (frame .entry)) level (vec x y z)) (now (out .entry)) (now (out .exit)) (bitsOf (now (left .entry))) (bitsOf (now (left .exit))) r ⌝ }
 {
-    lent_places::place(frame, x, y, z, level, out)
+    lent_places::place(frame, x, y, z, level, out, left)
 }
 
 // The places of a batch, one row of face, i, j, k for each vector; a refused row holds minus its refusal and zeros. `refused`: how many.

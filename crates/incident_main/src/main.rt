@@ -52,7 +52,8 @@ fn show_signed(n: i32) {
 
 fn show_located(located: Located) {
     match located {
-        Located::Done(p) => {
+        Located::Done(found) => {
+            let p = found.place;
             show(b"place ", p.face as u64);
             show(b" ", p.i as u64);
             show(b" ", p.j as u64);

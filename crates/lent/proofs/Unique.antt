@@ -1,13 +1,14 @@
 -- Two outcomes of a C call that meet one promise coincide: the number it returns, and what every lent slice then holds. Assumes nothing.
 use mathlib.Core.Path.{_≡_, refl, sym, ap, _∙_}
-use mathlib.Core.Bool.{Bool}
+use mathlib.Core.Bool.{Bool, _||_}
 use mathlib.Core.List.{List, [], _∷_, map}
 use Prim.Native.Nat.{ℕ}
-use lib.Dec.{T}
+use lib.Dec.{T, ltb}
 use lib.Ieee.{Float, binary64, fits, ofBits}
 use lib.Ieee.Bits.{ofBits-toBits}
+use lib.ListN.{length, take, drop}
 use Rattle.reply.specs.Replies.{Reply}
-use Rattle.lent.specs.Lent.{held, Gives, GivesFramed, GivesBoth, bitsOf}
+use Rattle.lent.specs.Lent.{held, framedNumber, Gives, GivesFramed, GivesBoth, GivesParts, bitsOf}
 
 -- one number returned means one content of a slice
 pub one-held : (n : ℕ) (vs before : List ℕ) {a b : List ℕ} {k l : ℕ} → k ≡ l → a ≡ held k n vs before → b ≡ held l n vs before → a ≡ b
@@ -29,6 +30,11 @@ pub one-gives-both : (owed n : ℕ) (vs before : List ℕ) (m : ℕ) (ws before�
 one-gives-both owed n vs before m ws before₂ g h =
     let same = g .number ∙ sym (h .number) in
     (same, one-held n vs before same (g .one) (h .one), one-held m ws before₂ same (g .other) (h .other))
+
+pub one-gives-parts : (bad : Bool) (n m : ℕ) (r : Reply) (before before₂ : List ℕ) {a b a₂ b₂ : List ℕ} {k l : ℕ}
+    → GivesParts bad n m r before a before₂ a₂ k → GivesParts bad n m r before b before₂ b₂ l → (k ≡ l) × (a ≡ b) × (a₂ ≡ b₂)
+one-gives-parts bad n m r before before₂ =
+    one-gives-both (framedNumber bad (ltb (length before) n || ltb (length before₂) m) r) n (take n (r .values)) before m (drop n (r .values)) before₂
 
 -- Doubles that a program holds: each is a value of the format, as every f64 is.
 abbrev pub AllHeld : List Float → Type 0

@@ -1,6 +1,6 @@
 -- What a C function returns, and what its lent slices hold afterwards.
 use mathlib.Core.Path.{_≡_}
-use mathlib.Core.Bool.{Bool}
+use mathlib.Core.Bool.{Bool, _||_}
 use mathlib.Core.List.{List, _++_, map}
 use Prim.Native.Nat.{ℕ, _+_}
 use lib.Dec.{ltb, eqb}
@@ -42,6 +42,11 @@ pub record GivesBoth (owed n : ℕ) (vs before after : List ℕ) (m : ℕ) (ws b
   pub number : k ≡ owed
   pub one : after ≡ held k n vs before
   pub other : after₂ ≡ held k m ws before₂
+
+-- a call whose reply has n numbers and then m doubles, by their bits, and a slice for each; a frame is lent that is bad or not, and where none is lent none is bad
+abbrev pub GivesParts : Bool → ℕ → ℕ → Reply → List ℕ → List ℕ → List ℕ → List ℕ → ℕ → Type 0
+GivesParts bad n m r before after before₂ after₂ k =
+    GivesBoth (framedNumber bad (ltb (length before) n || ltb (length before₂) m) r) n (take n (r .values)) before after m (drop n (r .values)) before₂ after₂ k
 
 -- a place by its four numbers
 abbrev pub at : ℕ → ℕ → ℕ → ℕ → Place

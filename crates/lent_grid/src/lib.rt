@@ -1,6 +1,7 @@
-// What the C face does with levels, plane points and places: grids, reducing and the maps, rounding, centres, where lines meet, the
-// moves between faces, and the names of corners. Each function returns the refusal's number, 0 for none, and a refusal writes nothing.
+// What the C face does with levels, plane points and places: grids, reducing and the maps, rounding and margins, centres, where lines meet,
+// the moves between faces, and the names of corners. Each function returns the refusal's number, 0 for none, and a refusal writes nothing.
 ghost use mathlib.Core.Path.{_≡_};
+ghost use mathlib.Core.Bool.{false};
 ghost use Prim.Native.Nat.{_+_, _≤_};
 ghost use lib.ListN.{length};
 ghost use Rattle.faceijk.specs.Entries.{turnReply, stepReply, crossReply, settleReply, directionReply};
@@ -12,9 +13,10 @@ ghost use Rattle.vec2d.specs.Meeting.{lineAt};
 ghost use Rattle.vec2d.specs.Closeness.{alikeReply};
 ghost use Rattle.coordijk.specs.Coordinates.{coord, reduced, coordValues};
 ghost use Rattle.coordijk.specs.Maps.{saidMapped};
-ghost use Rattle.vec2d.specs.Rounding.{roundReply};
+ghost use Rattle.vec2d.specs.Rounding.{leftovers, roundReply};
 ghost use Rattle.vec2d.specs.Centre.{centreReply};
-ghost use Rattle.lent.specs.Lent.{Gives, bitsOf, at};
+ghost use Rattle.margin.specs.Margins.{marginReply};
+ghost use Rattle.lent.specs.Lent.{Gives, GivesParts, bitsOf, at};
 ghost use Rattle.lent_grid.specs.Lines.{linesReply};
 ghost use Rattle.lent_grid.specs.Numbered.{mapAt, numberedReply};
 use coordijk::CoordIJK;
@@ -29,9 +31,11 @@ use level::CellLevel;
 use level::GridLevel;
 use level::Gridded;
 use level::Raised;
+use margin::Margined;
 use names::SameCorner;
 use reply::Refusal;
 use vec2d::Alike;
+use vec2d::Leftovers;
 use vec2d::Line;
 use vec2d::Pointed;
 use vec2d::Rounded;
@@ -132,21 +136,40 @@ pub fn map(map: u32, i: u32, j: u32, k: u32, out: &mut [u32]) -> u32
     }
 }
 
-// The hexagon of a plane point: i, j, k.
-pub fn round(x: f64, y: f64, out: &mut [u32]) -> u32
-    ensures { λ r. ⌜ Gives 3 (roundReply (point x y)) (now (out .entry)) (now (out .exit)) r ⌝ }
+// The hexagon of a plane point: i, j, k; and the leftovers r1, r2.
+pub fn round(x: f64, y: f64, out: &mut [u32], left: &mut [f64]) -> u32
+    ensures { λ r. ⌜ GivesParts false 3 2 (roundReply (point x y)) (now (out .entry)) (now (out .exit)) (bitsOf (now (left .entry))) (bitsOf (now (left .exit))) r ⌝ }
 {
-    if out.len() < 3 {
+    if (out.len() < 3) | (left.len() < 2) {
         return Refusal::BadRows.number();
     }
     let rounded = Vec2d::new(x, y).to_ijk();
     match rounded {
-        Rounded::Done(c) => {
-            let values = [c.i, c.j, c.k];
-            lent::put(out, 0, &values);
+        Rounded::Done(found) => {
+            let c = found.hexagon;
+            let l = found.left;
+            lent::put(out, 0, &[c.i, c.j, c.k]);
+            lent::put_doubles(left, 0, &[l.r1, l.r2]);
             0
         }
         Rounded::Refused(refusal) => refusal.number(),
+    }
+}
+
+// How far a point with these leftovers was from the nearest border of its hexagon, in hexagons.
+pub fn margin(r1: f64, r2: f64, out: &mut [f64]) -> u32
+    ensures { λ r. ⌜ Gives 1 (marginReply (leftovers r1 r2)) (bitsOf (now (out .entry))) (bitsOf (now (out .exit))) r ⌝ }
+{
+    if out.len() < 1 {
+        return Refusal::BadRows.number();
+    }
+    let margined = margin::margin(Leftovers { r1, r2 });
+    match margined {
+        Margined::Done(m) => {
+            lent::put_doubles(out, 0, &[m]);
+            0
+        }
+        Margined::Refused(refusal) => refusal.number(),
     }
 }
 

@@ -1,57 +1,36 @@
 -- How the calls with a frame end: a slice that is too short, an answer, a refusal. Assumes nothing.
 use mathlib.Core.Path.{_≡_, ap, _∙_}
-use mathlib.Core.Bool.{Bool, true, false, _||_}
+use mathlib.Core.Bool.{false}
 use mathlib.Core.List.{List, [], _∷_, _++_}
 use Prim.Native.Nat.{ℕ, _/_, _≤_, _<_}
-use lib.Dec.{ltb}
 use lib.IntN.{ℤ}
 use lib.Ieee.{Float}
-use lib.ListN.{length, take, drop}
+use lib.ListN.{length, drop}
 use borrow.Author.Tests.{lt-ltb, le-ltb}
 use Rattle.reply.specs.Choice.{pick}
 use Rattle.reply.specs.declared.Refusal.{Refusal}
 use Rattle.reply.specs.declared.Refusal.the-variants.{BadRows, BadLevel}
 use Rattle.reply.specs.declared.Verdict.{Verdict}
-use Rattle.reply.specs.Replies.{numberOf, Reply, when, first, answer, refusal}
+use Rattle.reply.specs.Replies.{numberOf, when, first, answer, refusal}
 use Rattle.level.specs.Levels.{badCell}
-use Rattle.lent.specs.Lent.{framedNumber, bitsOf}
-use Rattle.lent.proofs.Lent.{kept, bits-written}
+use Rattle.lent.specs.Lent.{framedNumber}
+use Rattle.lent.proofs.Lent.{kept}
 use Rattle.lent.proofs.Framed.{frameOrRows, framed-said, short-number, answer-number, refusal-number}
-use Rattle.lent.proofs.Both.{both-short, both-answers, both-refuses}
 use Rattle.vec3d.specs.declared.Vec3d.{Vec3d}
-use Rattle.vec3d.specs.declared.Nearest.{Nearest}
 use Rattle.vec3d.specs.Vectors.{vectorVerdict}
 use Rattle.vec3d.specs.Frame.{badFrame}
 use Rattle.vec3d.specs.Nearest.{nearestTo, nearestValues, nearestReply}
 use Rattle.words.specs.Rows.{countTo}
+use Rattle.locate.specs.Locating.{rowReasons, spotOf, spotValues, locateReply}
 use Rattle.locate.specs.Batch.{refusedAt, badRows, Outcome, batchOutcome}
-use Rattle.lent_places.specs.Places.{GivesNearest, GivesBatch}
+use Rattle.lent_places.specs.Places.{GivesBatch}
 
-module _ (s : List Float) (p : Vec3d) (faces : List ℕ) (distances : List Float) where
-  abbrev few : Bool
-  few = ltb (length faces) 1 || ltb (length distances) 1
+-- past the lengths the number is the reply's, which tells a bad frame itself
+pub nearest-said : (s : List Float) (p : Vec3d) → framedNumber (badFrame s) false (nearestReply s p) ≡ nearestReply s p .number
+nearest-said s p = framed-said (badFrame s) 2 (vectorVerdict p) (nearestValues (nearestTo s p 19))
 
-  abbrev values : List ℕ
-  values = nearestReply s p .values
-
-  said : framedNumber (badFrame s) false (nearestReply s p) ≡ nearestReply s p .number
-  said = framed-said (badFrame s) 2 (vectorVerdict p) (nearestValues (nearestTo s p 19))
-
-  pub nearest-short : (k : ℕ) → few ≡ true → k ≡ pick (badFrame s) 1 2 → GivesNearest s p faces faces (bitsOf distances) (bitsOf distances) k
-  nearest-short = both-short (badFrame s) (nearestReply s p) 1 (take 1 values) faces 1 (drop 1 values) distances
-
-  pub nearest-answers : (n : Nearest) (faces₂ : List ℕ) (distances₂ : List Float) → few ≡ false → answer (nearestValues n) ≡ nearestReply s p
-      → faces₂ ≡ (n .face ∷ []) ++ drop 1 faces → distances₂ ≡ (n .distance ∷ []) ++ drop 1 distances
-      → GivesNearest s p faces faces₂ (bitsOf distances) (bitsOf distances₂) 0
-  nearest-answers n faces₂ distances₂ t e f d =
-      both-answers (badFrame s) (nearestReply s p) 1 (take 1 values) faces 1 (drop 1 values) distances said faces₂ (bitsOf distances₂) t (ap (λ (y : Reply). y .number) e)
-      (f ∙ ap (λ (y : Reply). take 1 (y .values) ++ drop 1 faces) e)
-      (bits-written 1 (n .distance ∷ []) distances distances₂ d ∙ ap (λ (y : Reply). drop 1 (y .values) ++ drop 1 (bitsOf distances)) e)
-
-  pub nearest-refuses : (x : Refusal) (k : ℕ) → few ≡ false → refusal 2 x ≡ nearestReply s p → k ≡ numberOf x
-      → GivesNearest s p faces faces (bitsOf distances) (bitsOf distances) k
-  nearest-refuses x k t e w =
-      both-refuses (badFrame s) (nearestReply s p) 1 (take 1 values) faces 1 (drop 1 values) distances said x k t (ap (λ (y : Reply). y .number) e) w
+pub place-said : (s : List Float) (l : ℕ) (p : Vec3d) → framedNumber (badFrame s) false (locateReply s l p) ≡ locateReply s l p .number
+place-said s l p = framed-said (badFrame s) 6 (first (when (badCell l) BadLevel ∷ rowReasons s l p)) (spotValues (spotOf s l p))
 
 module _ (s : List Float) (l : ℕ) (input : List Float) (start : ℕ) (out : List ℤ) (refused : List ℕ) where
   abbrev outcome : Outcome

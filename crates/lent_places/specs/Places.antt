@@ -1,31 +1,20 @@
 -- What the calls that are lent a frame return, and what their slices hold afterwards.
 use mathlib.Core.Path.{_≡_}
-use mathlib.Core.Bool.{_||_}
 use mathlib.Core.List.{List}
 use Prim.Native.Nat.{ℕ}
 use lib.Dec.{ltb}
 use lib.Ieee.{Float}
 use lib.IntN.{ℤ}
-use lib.ListN.{length, take, drop}
+use lib.ListN.{length}
 use Rattle.reply.specs.Choice.{pick}
-use Rattle.lent.specs.Lent.{held, framedNumber, GivesBoth}
+use Rattle.lent.specs.Lent.{held, framedNumber}
 use Rattle.vec3d.specs.declared.Vec3d.{Vec3d}
 use Rattle.vec3d.specs.Frame.{badFrame}
-use Rattle.vec3d.specs.Nearest.{nearestReply}
 use Rattle.locate.specs.Batch.{batchOutcome}
 
 -- a vector by its three numbers
 abbrev pub vec : Float → Float → Float → Vec3d
 vec x y z = record { x = x; y = y; z = z }
-
--- the nearest face: of its two values each has a slice of its own
-abbrev pub nearestNumber : List Float → Vec3d → List ℕ → List ℕ → ℕ
-nearestNumber s p faces distances =
-    framedNumber (badFrame s) (ltb (length faces) 1 || ltb (length distances) 1) (nearestReply s p)
-
-abbrev pub GivesNearest : List Float → Vec3d → List ℕ → List ℕ → List ℕ → List ℕ → ℕ → Type 0
-GivesNearest s p faces faces₂ distances distances₂ k =
-    GivesBoth (nearestNumber s p faces distances) 1 (take 1 (nearestReply s p .values)) faces faces₂ 1 (drop 1 (nearestReply s p .values)) distances distances₂ k
 
 -- a batch: what becomes of it where there is room for how many rows were refused; with none nothing is written
 pub record GivesBatch (s : List Float) (l : ℕ) (input : List Float) (start : ℕ) (out out₂ : List ℤ) (refused refused₂ : List ℕ) (k : ℕ) : Type 0 where

@@ -2,11 +2,12 @@
 // a refusal writes nothing. A bad frame gets 1 even where a slice is too short.
 ghost use mathlib.Core.Path.{_≡_};
 ghost use Rattle.reply.specs.Choice.{pick};
-ghost use Rattle.lent.specs.Lent.{GivesFramed, bitsOf};
+ghost use Rattle.lent.specs.Lent.{GivesFramed, GivesParts, bitsOf};
 ghost use Rattle.vec3d.specs.Frame.{badFrame};
+ghost use Rattle.vec3d.specs.Nearest.{nearestReply};
 ghost use Rattle.face_projection.specs.Projection.{planeReply};
 ghost use Rattle.locate.specs.Locating.{locateReply};
-ghost use Rattle.lent_places.specs.Places.{vec, GivesNearest, GivesBatch};
+ghost use Rattle.lent_places.specs.Places.{vec, GivesBatch};
 use level::CellLevel;
 use locate::Batch;
 use locate::Located;
@@ -27,7 +28,7 @@ pub fn frame_or_rows(frame: &[f64]) -> u32
 
 // The face nearest to a unit vector, and its squared distance.
 pub fn nearest(frame: &[f64], x: f64, y: f64, z: f64, face: &mut [u32], distance: &mut [f64]) -> u32
-    ensures { λ r. ⌜ GivesNearest (now (frame .entry)) (vec x y z) (now (face .entry)) (now (face .exit)) (bitsOf (now (distance .entry))) (bitsOf (now (distance .exit))) r ⌝ }
+    ensures { λ r. ⌜ GivesParts (badFrame (now (frame .entry))) 1 1 (nearestReply (now (frame .entry)) (vec x y z)) (now (face .entry)) (now (face .exit)) (bitsOf (now (distance .entry))) (bitsOf (now (distance .exit))) r ⌝ }
 {
     if (face.len() < 1) | (distance.len() < 1) {
         return frame_or_rows(frame);
@@ -69,18 +70,28 @@ pub fn plane_point(
     }
 }
 
-// The place of a unit vector at a cell level: face, i, j, k.
-pub fn place(frame: &[f64], x: f64, y: f64, z: f64, level: u32, out: &mut [u32]) -> u32
-    ensures { λ r. ⌜ GivesFramed (badFrame (now (frame .entry))) 4 (locateReply (now (frame .entry)) level (vec x y z)) (now (out .entry)) (now (out .exit)) r ⌝ }
+// The place of a unit vector at a cell level: face, i, j, k; and the leftovers r1, r2.
+pub fn place(
+    frame: &[f64],
+    x: f64,
+    y: f64,
+    z: f64,
+    level: u32,
+    out: &mut [u32],
+    left: &mut [f64],
+) -> u32
+    ensures { λ r. ⌜ GivesParts (badFrame (now (frame .entry))) 4 2 (locateReply (now (frame .entry)) level (vec x y z)) (now (out .entry)) (now (out .exit)) (bitsOf (now (left .entry))) (bitsOf (now (left .exit))) r ⌝ }
 {
-    if out.len() < 4 {
+    if (out.len() < 4) | (left.len() < 2) {
         return frame_or_rows(frame);
     }
     let located = locate::locate(frame, CellLevel(level), Vec3d::new(x, y, z));
     match located {
-        Located::Done(p) => {
-            let values = [p.face, p.i, p.j, p.k];
-            lent::put(out, 0, &values);
+        Located::Done(found) => {
+            let p = found.place;
+            let l = found.left;
+            lent::put(out, 0, &[p.face, p.i, p.j, p.k]);
+            lent::put_doubles(left, 0, &[l.r1, l.r2]);
             0
         }
         Located::Refused(refusal) => refusal.number(),

@@ -1,43 +1,39 @@
 -- How the tests on the way lead to the entry's answer. Assumes nothing.
-use mathlib.Core.Path.{_≡_, refl, sym, ap, _∙_}
-use mathlib.Core.Bool.{Bool, true, false, not}
-use mathlib.Core.List.{List, [], _∷_}
-use Prim.Native.Nat.{ℕ, _<_, _≤_}
+use mathlib.Core.Path.{_≡_, refl, ap}
+use mathlib.Core.Bool.{Bool, true, false}
+use mathlib.Core.List.{List, _∷_}
+use Prim.Native.Nat.{ℕ, _<_}
 use native.Mathlib.Omega.{arith}
 use lib.Ieee.{Float}
 use Rattle.reply.specs.Choice.{pick}
 use Rattle.reply.specs.declared.Refusal.{Refusal}
-use Rattle.reply.specs.declared.Refusal.the-variants.{BadNumber, Behind, TooFar}
-use Rattle.reply.specs.declared.Verdict.{Verdict}
-use Rattle.reply.specs.declared.Verdict.the-variants.{Fine, Refused as Found}
-use Rattle.reply.specs.Replies.{Reply, when, first, answer, refusal, reply}
+use Rattle.reply.specs.declared.Refusal.the-variants.{Behind}
+use Rattle.reply.specs.Replies.{first, answer, refusal, reply}
 use Rattle.reply.proofs.Entries.{answers, refuses, answered, refused}
-use Rattle.coordijk.specs.declared.CoordIJK.{CoordIJK}
-use Rattle.coordijk.specs.Coordinates.{coordValues}
 use Rattle.vec2d.specs.declared.Vec2d.{Vec2d}
-use Rattle.vec2d.specs.declared.Pointed.{Pointed}
+use Rattle.vec2d.specs.declared.Found.{Found}
 use Rattle.vec2d.specs.declared.Pointed.the-variants.{Done, Refused}
 use Rattle.vec2d.specs.Points.{isPoint}
-use Rattle.vec2d.specs.Rounding.{tooFar, roundVerdict, roundReply, nearestOf}
+use Rattle.vec2d.specs.Rounding.{roundVerdict, roundReply, nearestOf, leftoversOf, foundOf, foundValues}
 use Rattle.vec3d.specs.declared.Vec3d.{Vec3d}
 use Rattle.vec3d.specs.declared.FaceAxes.{FaceAxes}
 use Rattle.vec3d.proofs.Passing.{passed-both}
 use Rattle.vec3d.proofs.Choosing.{nearest-in}
 use Rattle.face_projection.specs.Projection.{behind, pointOf, projectedOf}
 use Rattle.face_projection.proofs.Finite.{point-finite}
-use Rattle.faceijk.specs.Places.{place, placeValues}
-use Rattle.locate.specs.Locating.{Entered, nearFace, nearAxes, nearPoint, placeOf, frontReasons}
+use Rattle.faceijk.specs.Places.{place}
+use Rattle.locate.specs.Locating.{Entered, nearFace, nearAxes, nearPoint, spot, spotOf, spotValues, frontReasons}
 
--- a hexagon that rounding answers is the place's, and what rounding refuses is refused
-pub round-answers : (f : ℕ) (c : CoordIJK) (q : Vec2d) → answer (coordValues c) ≡ roundReply q
-    → answer (placeValues (place f c)) ≡ reply 4 (roundVerdict q) (placeValues (place f (nearestOf q)))
+-- a hexagon and leftovers that rounding answers are the place's, and what rounding refuses is refused
+pub round-answers : (f : ℕ) (c : Found) (q : Vec2d) → answer (foundValues c) ≡ roundReply q
+    → answer (spotValues (spot (place f (c .hexagon)) (c .left))) ≡ reply 6 (roundVerdict q) (spotValues (spot (place f (nearestOf q)) (leftoversOf q)))
 round-answers f c q e =
-    let t = answered 3 (roundVerdict q) (coordValues c) (coordValues (nearestOf q)) e in
-    answers 4 (roundVerdict q) _ _ (t .0) (ap (λ (vs : List ℕ). answer (f ∷ vs)) (t .1))
+    let t = answered 5 (roundVerdict q) (foundValues c) (foundValues (foundOf q)) e in
+    answers 6 (roundVerdict q) _ _ (t .0) (ap (λ (vs : List ℕ). answer (f ∷ vs)) (t .1))
 
-pub round-refuses : (f : ℕ) (r : Refusal) (q : Vec2d) → refusal 3 r ≡ roundReply q
-    → refusal 4 r ≡ reply 4 (roundVerdict q) (placeValues (place f (nearestOf q)))
-round-refuses f r q e = refuses 4 (roundVerdict q) _ r (refused 3 (roundVerdict q) r (coordValues (nearestOf q)) e)
+pub round-refuses : (f : ℕ) (r : Refusal) (q : Vec2d) → refusal 5 r ≡ roundReply q
+    → refusal 6 r ≡ reply 6 (roundVerdict q) (spotValues (spot (place f (nearestOf q)) (leftoversOf q)))
+round-refuses f r q e = refuses 6 (roundVerdict q) _ r (refused 5 (roundVerdict q) r (foundValues (foundOf q)) e)
 
 -- what the projection gives says whether the vector is behind the face
 module _ (a : FaceAxes) (l : ℕ) (p : Vec3d) where
@@ -70,5 +66,5 @@ module _ (s : List Float) (l : ℕ) (p : Vec3d) (entered : Entered s l p) where
   pub front-verdict : behind (nearAxes s p) p ≡ false → roundVerdict (nearPoint s l p) ≡ first (frontReasons s l p)
   front-verdict front = rw (front, near-finite front)
 
-  pub front-refuses : (r : Refusal) → (behind (nearAxes s p) p ≡ true) × (r ≡ Behind) → refusal 4 r ≡ reply 4 (first (frontReasons s l p)) (placeValues (placeOf s l p))
+  pub front-refuses : (r : Refusal) → (behind (nearAxes s p) p ≡ true) × (r ≡ Behind) → refusal 6 r ≡ reply 6 (first (frontReasons s l p)) (spotValues (spotOf s l p))
   front-refuses r h = rw (h .0, h .1)

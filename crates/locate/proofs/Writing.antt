@@ -17,19 +17,18 @@ use Rattle.reply.specs.Replies.{first, answer, refusal, reply}
 use Rattle.reply.proofs.Entries.{passed, neither}
 use Rattle.level.specs.Levels.{badCell}
 use Rattle.vec3d.specs.Frame.{vecAt, badFrame}
-use Rattle.faceijk.specs.declared.Place.{Place}
-use Rattle.faceijk.specs.Places.{placeValues}
-use Rattle.locate.specs.Locating.{Passed, placeOf, rowVerdict}
+use Rattle.locate.specs.declared.Spot.{Spot}
+use Rattle.locate.specs.Locating.{Passed, spotOf, spotValues, rowVerdict}
 use Rattle.words.specs.Rows.{countTo, between}
 use Rattle.locate.specs.Batch.{rowOf, rowAt, refusedAt, badRows, reasonsFor, batchVerdict, rowsBy, batchOutcome}
 use Rattle.locate.proofs.Signed.{number-some}
 
-reply-row : (v : Verdict) (p : Place) → length (rowOf (reply 4 v (placeValues p))) ≡ 4
-reply-row Fine p = refl
-reply-row (Refused r) p = rw (number-some r)
+reply-row : (v : Verdict) (t : Spot) → length (rowOf (reply 6 v (spotValues t))) ≡ 4
+reply-row Fine t = refl
+reply-row (Refused r) t = rw (number-some r)
 
 pub row-length : (s : List Float) (l : ℕ) (input : List Float) (k : ℕ) → length (rowAt s l input k) ≡ 4
-row-length s l input k = reply-row (rowVerdict s l (vecAt input (3 * k))) (placeOf s l (vecAt input (3 * k)))
+row-length s l input k = reply-row (rowVerdict s l (vecAt input (3 * k))) (spotOf s l (vecAt input (3 * k)))
 
 -- where the rows pass, they are there
 rows-fit : (ins outs start : ℕ) → badRows ins outs start ≡ false → 4 * start + 4 * (ins / 3) ≤ outs

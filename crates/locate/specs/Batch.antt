@@ -6,7 +6,7 @@ use mathlib.Core.List.{List, [], _∷_}
 use Prim.Native.Nat.{ℕ, _+_, _*_, _/_, _%_, _<_}
 use lib.IntN.{ℤ, pos, negℤ}
 use lib.Dec.{ltb, eqb}
-use lib.ListN.{length}
+use lib.ListN.{length, take}
 use lib.Ieee.{Float}
 use Rattle.reply.specs.Choice.{pick}
 use Rattle.reply.specs.declared.Verdict.{Verdict}
@@ -28,12 +28,12 @@ abbrev pub signed : List ℕ → List ℤ
 signed [] = []
 signed (n ∷ ns) = pos n ∷ signed ns
 
--- a reply as a row: its values, or minus the refusal and zeros
+-- a reply as a row, which keeps four numbers: the place without the leftovers, or minus the refusal and zeros
 abbrev pub isRefused : Reply → Bool
 isRefused r = not (eqb (r .number) 0)
 
 abbrev pub rowOf : Reply → List ℤ
-rowOf r = pick (isRefused r) (negℤ (pos (r .number)) ∷ signed (zeros 3)) (signed (r .values))
+rowOf r = pick (isRefused r) (negℤ (pos (r .number)) ∷ signed (zeros 3)) (signed (take 4 (r .values)))
 
 abbrev pub cells : Row → List ℤ
 cells r = r .face ∷ r .i ∷ r .j ∷ r .k ∷ []
@@ -89,5 +89,5 @@ batchOutcome s l input out start = record { said = batchReply s l input out star
 
 -- a place that may be given out can be written as signed numbers
 abbrev pub Given : Located → Type 0
-Given (Done p) = Okay p
+Given (Done t) = Okay (t .place)
 Given (Refused r) = Unit

@@ -1,4 +1,4 @@
-// The place of a unit vector at a cell level, `FaceIJK::from_vec3d` of the source: one vector, or a whole batch into lent rows.
+// The place of a unit vector at a cell level, `FaceIJK::from_vec3d` of the source: one vector with what its rounding left over, or a whole batch into lent rows.
 ghost use mathlib.Core.Path.{_≡_};
 ghost use mathlib.Core.Bool.{false};
 ghost use Prim.Native.Nat.{_+_, _*_, _/_, _≤_};
@@ -8,22 +8,29 @@ ghost use Rattle.reply.specs.Replies.{first, refusal, reply};
 ghost use Rattle.reply.specs.declared.Verdict.the-variants.{Fine};
 ghost use Rattle.vec3d.specs.Vectors.{vectorVerdict};
 ghost use Rattle.vec3d.specs.Frame.{badFrame};
-ghost use Rattle.vec2d.specs.Rounding.{roundVerdict, nearestOf};
+ghost use Rattle.vec2d.specs.Rounding.{roundVerdict, nearestOf, leftoversOf};
 ghost use Rattle.faceijk.specs.Places.{place, placeValues, Okay};
-ghost use Rattle.locate.specs.Locating.{nearFace, Passed, Entered, placeOf, frontReasons, saidLocated, rowReply, locateReply};
+ghost use Rattle.locate.specs.Locating.{nearFace, Passed, Entered, spot, spotOf, spotValues, frontReasons, saidLocated, rowReply, locateReply};
 ghost use Rattle.words.specs.Rows.{oneIf, countTo, Filled};
 ghost use Rattle.locate.specs.Batch.{signed, isRefused, rowOf, cells, Ahead, rowAt, refusedAt, badRows, reasonsFor, saidBatch, batchOutcome, Given};
 use faceijk::Place;
 use level::CellLevel;
 use reply::Refusal;
 use reply::Verdict;
+use vec2d::Leftovers;
 use vec2d::Pointed;
 use vec2d::Rounded;
 use vec2d::Vec2d;
 use vec3d::Vec3d;
 
+// A place, and the leftovers by which its hexagon was chosen.
+pub struct Spot {
+    pub place: Place,
+    pub left: Leftovers,
+}
+
 pub enum Located {
-    Done(Place),
+    Done(Spot),
     Refused(Refusal),
 }
 
@@ -33,7 +40,7 @@ pub enum Batch {
     Refused(Refusal),
 }
 
-// A row of a batch: face, i, j, k; or minus the refusal, 0, 0, 0.
+// A row of a batch: face, i, j, k, without the leftovers; or minus the refusal, 0, 0, 0.
 pub struct Row {
     pub face: i32,
     pub i: i32,
@@ -43,11 +50,16 @@ pub struct Row {
 
 // The place of a plane point on a face.
 fn rounded(face: u32, point: Vec2d) -> Located
-    ensures { λ r. ⌜ saidLocated r ≡ reply 4 (roundVerdict point) (placeValues (place face (nearestOf point))) ⌝ }
+    ensures { λ r. ⌜ saidLocated r ≡ reply 6 (roundVerdict point) (spotValues (spot (place face (nearestOf point)) (leftoversOf point))) ⌝ }
 {
     let answer = point.to_ijk();
     match answer {
-        Rounded::Done(c) => Located::Done(Place::new(face, c.i, c.j, c.k)),
+        Rounded::Done(found) => {
+            let c = found.hexagon;
+            let left = found.left;
+            let place = Place::new(face, c.i, c.j, c.k);
+            Located::Done(Spot { place, left })
+        }
         Rounded::Refused(refusal) => Located::Refused(refusal),
     }
 }
@@ -55,7 +67,7 @@ fn rounded(face: u32, point: Vec2d) -> Located
 // The place of a vector that has passed, on its nearest face, which the caller has found.
 fn on_nearest(frame: &[f64], level: u32, face: u32, p: Vec3d) -> Located
     requires { ⌜ Entered (now frame) level p × (face ≡ nearFace (now frame) p) ⌝ }
-    ensures { λ r. ⌜ saidLocated r ≡ reply 4 (first (frontReasons (now (frame .entry)) level p)) (placeValues (placeOf (now (frame .entry)) level p)) ⌝ }
+    ensures { λ r. ⌜ saidLocated r ≡ reply 6 (first (frontReasons (now (frame .entry)) level p)) (spotValues (spotOf (now (frame .entry)) level p)) ⌝ }
 {
     let answer = face_projection::project(vec3d::face_at(frame, face), level, p);
     match answer {
@@ -109,7 +121,7 @@ impl Row {
     }
 
     fn of_refusal(found: Refusal) -> Row
-        ensures { λ r. ⌜ cells r ≡ rowOf (refusal 4 found) ⌝ }
+        ensures { λ r. ⌜ cells r ≡ rowOf (refusal 6 found) ⌝ }
     {
         let number = found.number() as i32;
         Row {
@@ -125,7 +137,10 @@ impl Row {
         ensures { λ r. ⌜ cells r ≡ rowOf (saidLocated located) ⌝ }
     {
         match located {
-            Located::Done(p) => Row::of_place(p),
+            Located::Done(found) => {
+                let place = found.place;
+                Row::of_place(place)
+            }
             Located::Refused(refusal) => Row::of_refusal(refusal),
         }
     }

@@ -6,7 +6,11 @@ pub mod Whole
 pub mod Accepted
 pub mod Answers
 pub mod Taken
-pub mod Leftovers
+pub mod Exact
+pub mod Hexagon
+pub mod Fractions
+pub mod Telling
+pub mod Branches
 pub mod Checked
 pub mod Unique
 pub mod Order

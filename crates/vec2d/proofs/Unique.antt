@@ -9,33 +9,16 @@ use Rattle.reply.specs.declared.Verdict.{Verdict}
 use Rattle.reply.specs.declared.Verdict.the-variants.{Fine}
 use Rattle.reply.proofs.Entries.{values, answer-or-refusal, same-refusal, answered, refused}
 use Rattle.double.proofs.Sign.{same-bits}
-use Rattle.coordijk.specs.declared.CoordIJK.{CoordIJK}
-use Rattle.coordijk.specs.Coordinates.{coordValues}
 use Rattle.coordijk.proofs.Unique.{same-coord}
 use Rattle.vec2d.specs.declared.Vec2d.{Vec2d}
+use Rattle.vec2d.specs.declared.Leftovers.{Leftovers}
+use Rattle.vec2d.specs.declared.Found.{Found}
 use Rattle.vec2d.specs.declared.Rounded.{Rounded}
 use Rattle.vec2d.specs.declared.Pointed.{Pointed}
 use Rattle.vec2d.specs.declared.Alike.{Alike}
 use Rattle.vec2d.specs.Points.{point, saidPointed}
-use Rattle.vec2d.specs.Rounding.{nearestOf, roundVerdict, saidRounded, roundReply}
+use Rattle.vec2d.specs.Rounding.{nearestOf, leftovers, leftoversOf, leftValues, foundValues, roundVerdict, saidRounded, roundReply}
 use Rattle.vec2d.specs.Closeness.{saidAlike}
-
--- Two answers of a rounding that say the same are one.
-pub one-rounded : (a b : Rounded) → saidRounded a ≡ saidRounded b → a ≡ b
-one-rounded (Rounded.Done c) (Rounded.Done d) e = let v = values e in ap Rounded.Done (same-coord c d (cc) (cc) (cc))
-one-rounded (Rounded.Done c) (Rounded.Refused r) e = answer-or-refusal 3 _ r e
-one-rounded (Rounded.Refused r) (Rounded.Done c) e = answer-or-refusal 3 _ r (sym e)
-one-rounded (Rounded.Refused r) (Rounded.Refused s) e = ap Rounded.Refused (same-refusal 3 r s e)
-
--- What a caller learns of a rounding that is done: the point was accepted and this is its hexagon; and of one that is refused.
-pub round-told : (v : Vec2d) {x : Rounded} {c : CoordIJK} → x ≡ Rounded.Done c → saidRounded x ≡ roundReply v → (roundVerdict v ≡ Fine) × (c ≡ nearestOf v)
-round-told v {x} {c} is e =
-    let t = answered 3 (roundVerdict v) (coordValues c) _ (ap saidRounded (sym is) ∙ e) in
-    let w = t .1 in
-    (t .0, same-coord c (nearestOf v) (cc) (cc) (cc))
-
-pub round-refused : (v : Vec2d) {x : Rounded} {r : Refusal} → x ≡ Rounded.Refused r → saidRounded x ≡ roundReply v → roundVerdict v ≡ Verdict.Refused r
-round-refused v {x} {r} is e = refused 3 (roundVerdict v) r _ (ap saidRounded (sym is) ∙ e)
 
 -- A point that a program holds: each part is a value of the format, as every f64 is.
 pub record Held (v : Vec2d) : Type 0 where
@@ -46,6 +29,38 @@ pub record Held (v : Vec2d) : Type 0 where
 abbrev pub HeldAt : Pointed → Type 0
 HeldAt (Pointed.Done v) = Held v
 HeldAt (Pointed.Refused r) = Unit
+
+-- and of leftovers, alone and in an answer
+pub record HeldLeft (l : Leftovers) : Type 0 where
+  pub r1 : T (fits binary64 (l .r1))
+  pub r2 : T (fits binary64 (l .r2))
+
+abbrev pub HeldIn : Rounded → Type 0
+HeldIn (Rounded.Done c) = HeldLeft (c .left)
+HeldIn (Rounded.Refused r) = Unit
+
+-- Two roundings that a program holds, or refusals, that say the same are one.
+pub one-rounded : (a b : Rounded) → HeldIn a → HeldIn b → saidRounded a ≡ saidRounded b → a ≡ b
+one-rounded (Rounded.Done c) (Rounded.Done d) f g e =
+    let v = values e in
+    let h = same-coord (c .hexagon) (d .hexagon) (cc) (cc) (cc) in
+    let r1 = same-bits (c .left .r1) (d .left .r1) (f .r1) (g .r1) (cc) in
+    let r2 = same-bits (c .left .r2) (d .left .r2) (f .r2) (g .r2) (cc) in
+    λ n. Rounded.Done (record { hexagon = h n; left = leftovers (r1 n) (r2 n) })
+one-rounded (Rounded.Done c) (Rounded.Refused r) f g e = answer-or-refusal 5 _ r e
+one-rounded (Rounded.Refused r) (Rounded.Done c) f g e = answer-or-refusal 5 _ r (sym e)
+one-rounded (Rounded.Refused r) (Rounded.Refused s) f g e = ap Rounded.Refused (same-refusal 5 r s e)
+
+-- What a caller learns of a rounding that is done: the point was accepted, and these are its hexagon and, by their bits, its leftovers; and of one that is refused.
+pub round-told : (v : Vec2d) {x : Rounded} {c : Found} → x ≡ Rounded.Done c → saidRounded x ≡ roundReply v
+    → (roundVerdict v ≡ Fine) × (c .hexagon ≡ nearestOf v) × (leftValues (c .left) ≡ leftValues (leftoversOf v))
+round-told v {x} {c} is e =
+    let t = answered 5 (roundVerdict v) (foundValues c) _ (ap saidRounded (sym is) ∙ e) in
+    let w = t .1 in
+    (t .0, same-coord (c .hexagon) (nearestOf v) (cc) (cc) (cc), cc)
+
+pub round-refused : (v : Vec2d) {x : Rounded} {r : Refusal} → x ≡ Rounded.Refused r → saidRounded x ≡ roundReply v → roundVerdict v ≡ Verdict.Refused r
+round-refused v {x} {r} is e = refused 5 (roundVerdict v) r _ (ap saidRounded (sym is) ∙ e)
 
 -- Two points that a program holds, or refusals, that say the same are one.
 pub one-pointed : (a b : Pointed) → HeldAt a → HeldAt b → saidPointed a ≡ saidPointed b → a ≡ b

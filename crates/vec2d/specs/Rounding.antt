@@ -1,9 +1,9 @@
--- From a plane point to a hexagon, operation by operation.
+-- From a plane point to a hexagon and what is left over, operation by operation.
 use mathlib.Core.Bool.{Bool, true, false, not, _&&_, _||_}
-use mathlib.Core.List.{List, [], _∷_}
+use mathlib.Core.List.{List, [], _∷_, _++_}
 use Prim.Native.Nat.{ℕ, _+_, _^_}
 use lib.IntN.{ℤ, pos, negℤ, _-ℤ_}
-use lib.Ieee.{Float, binary64, ofBits, add, sub, mul, div, lt, le}
+use lib.Ieee.{Float, binary64, ofBits, toBits, add, sub, mul, div, lt, le}
 use Rattle.reply.specs.Choice.{pick}
 use Rattle.reply.specs.declared.Verdict.{Verdict}
 use Rattle.reply.specs.declared.Refusal.the-variants.{BadNumber, TooFar}
@@ -15,6 +15,8 @@ use Rattle.coordijk.specs.Coordinates.{coordValues}
 use Rattle.coordijk.specs.Signed.{Signed, signed, reducedZ}
 use Rattle.vec2d.specs.declared.Vec2d.{Vec2d}
 use Rattle.vec2d.specs.declared.Quantized.{Quantized}
+use Rattle.vec2d.specs.declared.Leftovers.{Leftovers}
+use Rattle.vec2d.specs.declared.Found.{Found}
 use Rattle.vec2d.specs.declared.Steps.{Steps}
 use Rattle.vec2d.specs.declared.Rounded.{Rounded}
 use Rattle.vec2d.specs.declared.Rounded.the-variants.{Done, Refused}
@@ -63,7 +65,7 @@ steps i j = record { i = i; j = j }
 --   below 1/2   r2 ≥ 1 - r1 and r2 < 2·r1       r2 ≥ 1 - r1
 --   below 2/3   r2 ≤ 2·r1 - 1 or r2 ≥ 1 - r1    r2 ≥ 1 - r1
 --   the rest    always                          r2 ≥ r1/2
--- `mul_add(2.0, r1, -1.)` is 2·r1 - 1, which has the same bits rounded once or twice (`once-or-twice` of proofs/Leftovers).
+-- `mul_add(2.0, r1, -1.)` is 2·r1 - 1, which has the same bits rounded once or twice (`once-or-twice` of proofs/Exact).
 unfoldable pub stepsOf : Float → Float → Steps
 stepsOf r1 r2 =
     let past = le (sub binary64 one r1) r2 in
@@ -97,10 +99,31 @@ nearestOf v =
     let s = stepsOf (q .r1) (q .r2) in
     foldOf (lt (v .x) nought) (lt (v .y) nought) (raisedBy (s .i) (q .m1)) (raisedBy (s .j) (q .m2))
 
--- the entry, in the paper's numbers
+-- Both leftovers, as the doubles that the branches saw.
+abbrev pub leftovers : Float → Float → Leftovers
+leftovers r1 r2 = record { r1 = r1; r2 = r2 }
+
+abbrev pub leftoversOf : Vec2d → Leftovers
+leftoversOf v = leftovers (quantizedOf v .r1) (quantizedOf v .r2)
+
+abbrev pub foundOf : Vec2d → Found
+foundOf v = record { hexagon = nearestOf v; left = leftoversOf v }
+
+-- a hexagon and its leftovers as a reply's values: i, j, k, and the bits of r1 and r2
+abbrev pub leftValues : Leftovers → List ℕ
+leftValues l = toBits binary64 (l .r1) ∷ toBits binary64 (l .r2) ∷ []
+
+abbrev pub foundValues : Found → List ℕ
+foundValues c = coordValues (c .hexagon) ++ leftValues (c .left)
+
+-- the entry, in the paper's numbers: a refusal has zeros for the leftovers too
 abbrev pub saidRounded : Rounded → Reply
-saidRounded (Done c) = answer (coordValues c)
-saidRounded (Refused r) = refusal 3 r
+saidRounded (Done c) = answer (foundValues c)
+saidRounded (Refused r) = refusal 5 r
 
 abbrev pub roundReply : Vec2d → Reply
-roundReply v = reply 3 (roundVerdict v) (coordValues (nearestOf v))
+roundReply v = reply 5 (roundVerdict v) (foundValues (foundOf v))
+
+-- its whole numbers alone, as document 01 has the entry
+abbrev pub hexagonReply : Vec2d → Reply
+hexagonReply v = reply 3 (roundVerdict v) (coordValues (nearestOf v))

@@ -1,9 +1,9 @@
-// Plane points, `Vec2d` of the source: rounding to a hexagon, the centre of a hexagon, where two lines meet, and near-equality.
+// Plane points, `Vec2d` of the source: rounding to a hexagon with what is left over, the centre of a hexagon, where two lines meet, and near-equality.
 ghost use mathlib.Core.Path.{_≡_};
 ghost use Prim.Native.Nat.{_≤_, _<_, _^_};
 ghost use Rattle.reply.specs.Choice.{pick};
 ghost use Rattle.vec2d.specs.Points.{point, isPoint, saidPointed};
-ghost use Rattle.vec2d.specs.Rounding.{tooFar, inside, roundVerdict, Near, quantizedOf, steps, stepsOf, raisedBy, foldOf, nearestOf, saidRounded, roundReply};
+ghost use Rattle.vec2d.specs.Rounding.{tooFar, inside, roundVerdict, Near, quantizedOf, steps, stepsOf, raisedBy, foldOf, foundOf, saidRounded, roundReply};
 ghost use Rattle.vec2d.specs.Centre.{centreOf, centreReply};
 ghost use Rattle.vec2d.specs.Meeting.{along, divisorOf, shareOf, reachedOf, crossingOf, metOf, isLine, meetReply};
 ghost use Rattle.vec2d.specs.Closeness.{within, close, saidAlike, alikeReply};
@@ -21,8 +21,20 @@ pub struct Line {
     pub to: Vec2d,
 }
 
+// What is left of a point's two coordinates without their whole parts: each at least 0 and below 1.
+pub struct Leftovers {
+    pub r1: f64,
+    pub r2: f64,
+}
+
+// The hexagon of a point, and the leftovers by which it was chosen.
+pub struct Found {
+    pub hexagon: CoordIJK,
+    pub left: Leftovers,
+}
+
 pub enum Rounded {
-    Done(CoordIJK),
+    Done(Found),
     Refused(Refusal),
 }
 
@@ -46,8 +58,8 @@ struct Quantized {
     pub r2: f64,
 }
 
-// Whether the hexagon is one past the whole part, in either coordinate.
-struct Steps {
+// Whether the hexagon is one past the whole part, in either coordinate. Public for the margin.
+pub struct Steps {
     pub i: bool,
     pub j: bool,
 }
@@ -82,8 +94,8 @@ impl Steps {
     }
 }
 
-// Which hexagon, by the two leftovers alone: four stripes of r1 in the source's order, and in each one test for i and one for j.
-fn chosen(r1: f64, r2: f64) -> Steps
+// Which hexagon, by the two leftovers alone: four stripes of r1 in the source's order, and in each one test for i and one for j. Public for the margin.
+pub fn chosen(r1: f64, r2: f64) -> Steps
     ensures { λ r. ⌜ r ≡ stepsOf r1 r2 ⌝ }
 {
     let past = r2 >= 1.0 - r1;
@@ -213,19 +225,23 @@ impl Vec2d {
         }
     }
 
-    fn nearest(self) -> CoordIJK
+    fn nearest(self) -> Found
         requires { ⌜ Near self ⌝ }
-        ensures { λ r. ⌜ r ≡ nearestOf self ⌝ }
+        ensures { λ r. ⌜ r ≡ foundOf self ⌝ }
     {
         let q = self.quantize();
         let s = chosen(q.r1, q.r2);
-        Axial {
+        let hexagon = Axial {
             i: raised(q.m1, s.i),
             j: raised(q.m2, s.j),
-        }.fold(self.x < 0.0, self.y < 0.0)
+        }.fold(self.x < 0.0, self.y < 0.0);
+        Found {
+            hexagon,
+            left: Leftovers { r1: q.r1, r2: q.r2 },
+        }
     }
 
-    // The hexagon of the point x, y. The two stand apart, so that they come in registers: a point read back from memory at once costs a third more.
+    // The hexagon and the leftovers of the point x, y. The two stand apart, so that they come in registers: a point read back from memory at once costs a third more.
     fn rounded(x: f64, y: f64) -> Rounded
         ensures { λ r. ⌜ saidRounded r ≡ roundReply (point x y) ⌝ }
     {
@@ -237,7 +253,7 @@ impl Vec2d {
         }
     }
 
-    // The hexagon that holds the point, `From<Vec2d> for CoordIJK` of the source.
+    // The hexagon that holds the point, `From<Vec2d> for CoordIJK` of the source, and the leftovers that its branches saw.
     pub fn to_ijk(self) -> Rounded
         ensures { λ r. ⌜ saidRounded r ≡ roundReply self ⌝ }
     {

@@ -2,7 +2,7 @@
 //! must come out as a refusal between two good answers, never as the answer of a minute ago. Asked one by one, then as a batch.
 use std::process::ExitCode;
 
-use heddleplume::{CellLevel, FaceIJK, Frame, Refusal, locate, locate_all, read_row};
+use heddleplume::{CellLevel, FaceIJK, Frame, Located, Refusal, locate, locate_all, read_row};
 
 const LEVEL: CellLevel = CellLevel(5);
 
@@ -23,9 +23,14 @@ fn told(answer: Result<FaceIJK, Refusal>) -> String {
     }
 }
 
+/// Asked alone, a receiver's leftovers also say how near the line it is.
 fn ask_alone(frame: &Frame, vectors: &[[f64; 3]]) {
     for (n, vector) in vectors.iter().enumerate() {
-        println!("receiver {}: {}", n + 1, told(locate(frame, LEVEL, *vector)));
+        let answer = locate(frame, LEVEL, *vector);
+        println!("receiver {}: {}", n + 1, told(answer.map(|located| located.place)));
+        if let Ok(Located { left, .. }) = answer {
+            println!("  {:.3} of a hexagon from its border", left.margin().expect("leftovers that were given are in range"));
+        }
     }
 }
 

@@ -1,7 +1,8 @@
 //! The four files of h3o 0.11.1 that were ported, compiled unchanged from docs/src over shims for what is not in the text given.
 //!
 //! `coord` has them as they are, and its boundaries lie on the sphere; `plane` has `faceijk.rs` once more, with a `Vec3d` that
-//! notes each plane point just before its projection, which is what a boundary of the port holds on the plane.
+//! notes each plane point just before its projection, which is what a boundary of the port holds on the plane; `leftovers` has the
+//! rounding once more, from a copy of `vec2d.rs` with one line more, which notes what its branches see.
 #![allow(dead_code, unexpected_cfgs, unfulfilled_lint_expectations, clippy::all)]
 
 mod base_cell;
@@ -9,6 +10,7 @@ pub mod coord;
 mod direction;
 pub mod face;
 mod index;
+pub mod leftovers;
 mod math;
 pub mod plane;
 pub mod resolution;

@@ -1,6 +1,6 @@
 //! Times both sides in one process on the same inputs: nanoseconds for an answer, best and median of the passes.
-use crate::ours::{At, Outline, SphereOutline, Vector, bare};
-use crate::{borders, chance::Chance, names, places, plain, regions, sphere, vectors};
+use crate::ours::{At, Left, Outline, SphereOutline, Vector, bare};
+use crate::{borders, chance::Chance, margin, names, places, plain, regions, round, sphere, vectors};
 use h3o::coord::{CoordIJK, FaceIJK, Vec2d, Vec3d};
 use h3o::face::FRAME;
 use h3o::{Boundary, ExtendedResolution, Face, Resolution, Vertex, plane};
@@ -79,9 +79,9 @@ fn place_one() {
         "place, one vector, level 9", MANY,
         || {
             for &v in &input {
-                let mut out = [0u32; 4];
-                black_box(bare::place(&FRAME, v, 9, &mut out));
-                black_box(out);
+                let (mut out, mut left) = ([0u32; 4], [0f64; 2]);
+                black_box(bare::place(&FRAME, v, 9, &mut out, &mut left));
+                black_box((out, left));
             }
         },
         || {
@@ -92,21 +92,46 @@ fn place_one() {
     );
 }
 
-fn round() {
+fn plane_points() -> Vec<(f64, f64)> {
     let mut chance = Chance(10);
-    let points: Vec<(f64, f64)> = (0..MANY).map(|_| (chance.unit() * 20000., chance.unit() * 20000.)).collect();
+    (0..MANY).map(|_| (chance.unit() * 20000., chance.unit() * 20000.)).collect()
+}
+
+/// The Rust keeps its leftovers to itself.
+fn round() {
+    let points = plane_points();
     row(
         "rounding", MANY,
         || {
             for &p in &points {
-                let mut out = [0u32; 3];
-                black_box(bare::round(p, &mut out));
-                black_box(out);
+                let (mut out, mut left) = ([0u32; 3], [0f64; 2]);
+                black_box(bare::round(p, &mut out, &mut left));
+                black_box((out, left));
             }
         },
         || {
             for &(x, y) in &points {
                 black_box(CoordIJK::from(Vec2d::new(x, y)));
+            }
+        },
+    );
+}
+
+/// The leftovers of the same points. The source has no margin: beside ours stands the judge's own rule, in plain Rust.
+fn margin() {
+    let lefts: Vec<Left> = plane_points().into_iter().map(|(x, y)| round::rounded(Vec2d::new(x, y)).1).collect();
+    row(
+        "margin, beside the judge's rule", MANY,
+        || {
+            for &left in &lefts {
+                let mut out = [0f64];
+                black_box(bare::margin(left, &mut out));
+                black_box(out);
+            }
+        },
+        || {
+            for &left in &lefts {
+                black_box(margin::oracle(black_box(left)));
             }
         },
     );
@@ -444,10 +469,11 @@ fn region_write() {
 }
 
 /// The table's rows in their order, each under the question's name.
-const ROWS: [(&str, fn()); 21] = [
+const ROWS: [(&str, fn()); 22] = [
     ("place", place),
     ("place", place_one),
     ("round", round),
+    ("margin", margin),
     ("nearest", nearest),
     ("plane point", plane_point),
     ("settle", || settle("settling, level 10, coordinates to 2^20", 10, MANY)),

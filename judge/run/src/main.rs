@@ -6,6 +6,7 @@ mod globe;
 mod grids;
 mod lists;
 mod longest;
+mod margin;
 mod names;
 mod ours;
 mod places;
@@ -63,12 +64,13 @@ impl Tally {
 /// A question's name and who asks it.
 type Question = (&'static str, fn(&mut Tally));
 
-const QUESTIONS: [Question; 36] = [
+const QUESTIONS: [Question; 37] = [
     ("raise", grids::run_raise),
     ("grid", grids::run_grid),
     ("reduce", grids::run_reduce),
     ("map", grids::run_map),
     ("round", round::run),
+    ("margin", margin::run),
     ("centre", plane::run_centre),
     ("meet", plane::run_meet),
     ("alike", plane::run_alike),

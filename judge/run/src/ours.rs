@@ -9,7 +9,8 @@ unsafe extern "C" {
     fn heddleplume_plane_point(
         frame: *const f64, frame_len: usize, face: u32, level: u32, x: f64, y: f64, z: f64, out: *mut f64, len: usize,
     ) -> u32;
-    fn heddleplume_round(x: f64, y: f64, out: *mut u32, len: usize) -> u32;
+    fn heddleplume_round(x: f64, y: f64, out: *mut u32, len: usize, left: *mut f64, left_len: usize) -> u32;
+    fn heddleplume_margin(r1: f64, r2: f64, out: *mut f64, len: usize) -> u32;
     fn heddleplume_centre(i: u32, j: u32, k: u32, out: *mut f64, len: usize) -> u32;
     fn heddleplume_meet(lines: *const f64, lines_len: usize, out: *mut f64, len: usize) -> u32;
     fn heddleplume_direction(from: u32, to: u32, out: *mut u32, len: usize) -> u32;
@@ -24,7 +25,9 @@ unsafe extern "C" {
     fn heddleplume_nearest(
         frame: *const f64, frame_len: usize, x: f64, y: f64, z: f64, face: *mut u32, face_len: usize, distance: *mut f64, distance_len: usize,
     ) -> u32;
-    fn heddleplume_place(frame: *const f64, frame_len: usize, x: f64, y: f64, z: f64, level: u32, out: *mut u32, len: usize) -> u32;
+    fn heddleplume_place(
+        frame: *const f64, frame_len: usize, x: f64, y: f64, z: f64, level: u32, out: *mut u32, len: usize, left: *mut f64, left_len: usize,
+    ) -> u32;
     fn heddleplume_batch(
         frame: *const f64, frame_len: usize, level: u32, input: *const f64, input_len: usize, out: *mut i32, out_len: usize, first: usize,
         refused: *mut u64, refused_len: usize,
@@ -79,8 +82,11 @@ pub mod bare {
     pub fn plane_point(frame: &[f64], face: u32, level: u32, [x, y, z]: Vector, out: &mut [f64]) -> u32 {
         unsafe { heddleplume_plane_point(frame.as_ptr(), frame.len(), face, level, x, y, z, out.as_mut_ptr(), out.len()) }
     }
-    pub fn round((x, y): (f64, f64), out: &mut [u32]) -> u32 {
-        unsafe { heddleplume_round(x, y, out.as_mut_ptr(), out.len()) }
+    pub fn round((x, y): (f64, f64), out: &mut [u32], left: &mut [f64]) -> u32 {
+        unsafe { heddleplume_round(x, y, out.as_mut_ptr(), out.len(), left.as_mut_ptr(), left.len()) }
+    }
+    pub fn margin([r1, r2]: Left, out: &mut [f64]) -> u32 {
+        unsafe { heddleplume_margin(r1, r2, out.as_mut_ptr(), out.len()) }
     }
     pub fn centre((i, j, k): (u32, u32, u32), out: &mut [f64]) -> u32 {
         unsafe { heddleplume_centre(i, j, k, out.as_mut_ptr(), out.len()) }
@@ -113,8 +119,9 @@ pub mod bare {
         let (f, d) = ((face.as_mut_ptr(), face.len()), (distance.as_mut_ptr(), distance.len()));
         unsafe { heddleplume_nearest(frame.as_ptr(), frame.len(), x, y, z, f.0, f.1, d.0, d.1) }
     }
-    pub fn place(frame: &[f64], [x, y, z]: Vector, level: u32, out: &mut [u32]) -> u32 {
-        unsafe { heddleplume_place(frame.as_ptr(), frame.len(), x, y, z, level, out.as_mut_ptr(), out.len()) }
+    pub fn place(frame: &[f64], [x, y, z]: Vector, level: u32, out: &mut [u32], left: &mut [f64]) -> u32 {
+        let (o, l) = ((out.as_mut_ptr(), out.len()), (left.as_mut_ptr(), left.len()));
+        unsafe { heddleplume_place(frame.as_ptr(), frame.len(), x, y, z, level, o.0, o.1, l.0, l.1) }
     }
     pub fn batch(frame: &[f64], level: u32, input: &[f64], out: &mut [i32], first: usize, refused: &mut [u64]) -> u32 {
         let (o, r) = ((out.as_mut_ptr(), out.len()), (refused.as_mut_ptr(), refused.len()));
@@ -210,6 +217,9 @@ pub type At = (u32, u32, u32, u32);
 /// A vector: x, y, z.
 pub type Vector = [f64; 3];
 
+/// The leftovers of a rounding: r1, r2.
+pub type Left = [f64; 2];
+
 /// Coordinates: i, j, k.
 pub type Triple = (u32, u32, u32);
 
@@ -237,8 +247,17 @@ pub fn plane_point(frame: &[f64], face: u32, level: u32, v: Vector) -> Said<2> {
     asked_doubles::<2, 3>(|out| bare::plane_point(frame, face, level, v, out))
 }
 
-pub fn round(x: f64, y: f64) -> Said<3> {
-    asked::<3, 4>(|out| bare::round((x, y), out))
+/// The hexagon, and the bits of the leftovers.
+pub fn round(x: f64, y: f64) -> Said<5> {
+    let mut hexagon = [UNTOUCHED; 4];
+    let left = asked_doubles::<2, 3>(|left| bare::round((x, y), &mut hexagon, left));
+    assert_eq!(hexagon[3], UNTOUCHED, "an element past the hexagon was written");
+    let value = |n: usize| if n < 3 { hexagon[n].into() } else { left.values[n - 3] };
+    Said { number: left.number, values: std::array::from_fn(value) }
+}
+
+pub fn margin(left: Left) -> Said<1> {
+    asked_doubles::<1, 2>(|out| bare::margin(left, out))
 }
 
 pub fn centre(at: (u32, u32, u32)) -> Said<2> {
@@ -287,8 +306,13 @@ pub fn nearest(frame: &[f64], v: Vector) -> Said<2> {
     Said { number: distance.number, values: [face[0].into(), distance.values[0]] }
 }
 
-pub fn place(frame: &[f64], v: Vector, level: u32) -> Said<4> {
-    asked::<4, 5>(|out| bare::place(frame, v, level, out))
+/// The place, and the bits of the leftovers.
+pub fn place(frame: &[f64], v: Vector, level: u32) -> Said<6> {
+    let mut place = [UNTOUCHED; 5];
+    let left = asked_doubles::<2, 3>(|left| bare::place(frame, v, level, &mut place, left));
+    assert_eq!(place[4], UNTOUCHED, "an element past the place was written");
+    let value = |n: usize| if n < 4 { place[n].into() } else { left.values[n - 4] };
+    Said { number: left.number, values: std::array::from_fn(value) }
 }
 
 /// How many rows of a batch were refused; the rows stand in `out`.

@@ -52,6 +52,12 @@ fn bits(x: u64) -> String {
     format!("{x:016x}")
 }
 
+/// Numbers, and the two leftovers that follow them.
+fn with_leftovers<const N: usize>(values: [u64; N]) -> String {
+    let (numbers, left) = values.split_at(N - 2);
+    format!("{} {}", joined(numbers), joined(left.iter().map(|&x| bits(x))))
+}
+
 fn crossed([f, i, j, k, answer]: [u64; 5]) -> String {
     format!("{f} {i} {j} {k} {}", ["None", "FaceEdge", "NewFace"][answer as usize])
 }
@@ -104,7 +110,7 @@ fn kind_of_grid(substrate: bool) -> char {
 // The questions, each with the oracle's answer.
 
 fn ask_round(c: &mut Chance, x: f64, y: f64) -> Entry {
-    Entry::new(format!("round {}", doubles(c, [x, y])), round::oracle(x, y), plain)
+    Entry::new(format!("round {}", doubles(c, [x, y])), round::oracle(x, y), with_leftovers)
 }
 
 fn ask_centre((i, j, k): (u32, u32, u32)) -> Entry {
@@ -158,7 +164,7 @@ fn ask_nearest(c: &mut Chance, frame: &Frame, v: Vector) -> Option<Entry> {
 /// None where the Rust and document 01 differ, near the border of a hexagon.
 fn ask_place(c: &mut Chance, frame: &Frame, level: u32, v: Vector) -> Option<Entry> {
     let said = vectors::agreed_place(frame, v, level)?;
-    Some(Entry::new(format!("place {level} {}", doubles(c, v)), said, plain))
+    Some(Entry::new(format!("place {level} {}", doubles(c, v)), said, with_leftovers))
 }
 
 fn ask_corners(at: At, level: u32) -> Entry {
@@ -387,13 +393,20 @@ fn checked(entry: Entry, paper: &str) -> Entry {
     entry
 }
 
+/// The paper has the hexagons. The leftovers were worked out in fractions, each operation rounded once.
 fn checked_rounding() -> Vec<Entry> {
+    let (none, half) = ("0000000000000000 0000000000000000", "3fe0000000000000 0000000000000000");
+    let (near_half, slanting) = ("3fdf5c28f5c28f5c 0000000000000000", "3fdadaf9e39d28cc 3fa41604a038f320");
     let paper = [
-        (0., 0., "0 0 0"), (1., 0., "1 0 0"), (-1., 0., "0 1 1"), (0.5, 0., "1 0 0"), (-0.5, 0., "0 1 1"), (0.49, 0., "0 0 0"),
-        (0.9, 0.9, "1 1 0"), (0.9, -0.9, "1 0 1"), (-0.9, 0.9, "0 1 0"), (-0.9, -0.9, "0 0 1"), (33554432., 0., "refused 9 TooFar"),
+        (0., 0., "0 0 0", none), (1., 0., "1 0 0", none), (-1., 0., "0 1 1", none), (0.5, 0., "1 0 0", half), (-0.5, 0., "0 1 1", half),
+        (0.49, 0., "0 0 0", near_half), (0.9, 0.9, "1 1 0", slanting), (0.9, -0.9, "1 0 1", slanting), (-0.9, 0.9, "0 1 0", slanting),
+        (-0.9, -0.9, "0 0 1", slanting),
     ];
     let mut c = Chance(SEED - 1);
-    paper.into_iter().map(|(x, y, answer)| checked(ask_round(&mut c, x, y), answer)).collect()
+    let mut ask = |x, y, answer: &str| checked(ask_round(&mut c, x, y), answer);
+    let mut all: Vec<Entry> = paper.into_iter().map(|(x, y, hexagon, left)| ask(x, y, &format!("{hexagon} {left}"))).collect();
+    all.push(ask(33554432., 0., "refused 9 TooFar"));
+    all
 }
 
 fn checked_crossing() -> Vec<Entry> {

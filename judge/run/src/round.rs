@@ -1,23 +1,38 @@
-//! Rounding a plane point to a hexagon: `From<Vec2d> for CoordIJK` of the Rust beside `heddleplume_round`.
-use crate::{Tally, chance::Chance, ours, ours::Said};
+//! Rounding a plane point to a hexagon: `From<Vec2d> for CoordIJK` of the Rust beside `heddleplume_round`, and the leftovers that its
+//! branches saw, bit for bit.
+use crate::{Tally, chance::Chance, ours, ours::{Left, Said}};
 use h3o::coord::{CoordIJK, Vec2d};
+use h3o::leftovers;
 
 const LIMIT: f64 = 33554432.;
 
+/// The Rust's hexagon of a point and the leftovers: the copy that notes them must round as the original does.
+pub fn rounded(point: Vec2d) -> (CoordIJK, Left) {
+    let hexagon = CoordIJK::from(point);
+    let (noted, left) = leftovers::rounded(point);
+    assert!(noted == hexagon, "{point:?} is {hexagon:?}, but {noted:?} in the copy that notes leftovers");
+    (hexagon, left)
+}
+
 /// What document 01 says: 6 for a NaN or an infinity, 9 from 2^25 on, else what the Rust says.
-pub fn oracle(x: f64, y: f64) -> Said<3> {
+pub fn oracle(x: f64, y: f64) -> Said<5> {
     if !x.is_finite() || !y.is_finite() {
         return Said::refused(6);
     }
     if x.abs() >= LIMIT || y.abs() >= LIMIT {
         return Said::refused(9);
     }
-    let c = CoordIJK::from(Vec2d::new(x, y));
-    Said::done([c.i() as u64, c.j() as u64, c.k() as u64])
+    let (c, [r1, r2]) = rounded(Vec2d::new(x, y));
+    Said::done([c.i() as u64, c.j() as u64, c.k() as u64, r1.to_bits(), r2.to_bits()])
 }
 
 fn ask(tally: &mut Tally, x: f64, y: f64) {
-    tally.same(ours::round(x, y), oracle(x, y), || format!("round {:016x} {:016x}", x.to_bits(), y.to_bits()));
+    let (theirs, what) = (oracle(x, y), || format!("round {:016x} {:016x}", x.to_bits(), y.to_bits()));
+    tally.same(ours::round(x, y), theirs, what);
+    if theirs.number == 0 {
+        // from plus zero up to 1 the bits of doubles rise with them, and minus zero's are higher
+        tally.also(theirs.values[3..].iter().all(|&bits| bits < 1f64.to_bits()), || format!("{}: a leftover out of range", what()));
+    }
 }
 
 /// The numbers next to x, and x with the other sign.

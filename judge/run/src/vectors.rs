@@ -1,7 +1,8 @@
 //! Vectors: nearest face, plane point, place and batch. `closest_face` of the Rust has the same operations and must agree by its bits;
 //! its projection is trigonometry where document 01 has dot products, so a place may differ near a hexagon's border, by the
-//! law in `allowance`. Every answer is also compared with document 01's own formulas, and there nothing may differ.
-use crate::{Tally, chance::Chance, ours, ours::{Said, Vector}, places};
+//! law in `allowance`, and so may its leftovers. Every answer is also compared with document 01's own formulas, and there nothing may
+//! differ.
+use crate::{Tally, chance::Chance, ours, ours::{Left, Said, Vector}, places, round};
 use h3o::coord::{CoordIJK, FaceIJK, Vec2d, Vec3d};
 use h3o::face::FRAME;
 use h3o::{Face, Resolution};
@@ -115,12 +116,13 @@ fn refusal(frame: &Frame, level: u32, v: Vector) -> u32 {
     }
 }
 
-/// A place that is answered by document 01's formulas, with the plane point it was rounded from.
+/// A place that is answered by document 01's formulas, with the plane point it was rounded from and what was left over.
 struct ByRule {
     face: usize,
     gap: f64,
     point: (f64, f64),
     coord: CoordIJK,
+    left: Left,
 }
 
 impl ByRule {
@@ -130,10 +132,13 @@ impl ByRule {
         if point.0.abs().max(point.1.abs()) >= (1 << 25) as f64 {
             return Err(9);
         }
-        Ok(Self { face, gap, point, coord: Vec2d::new(point.0, point.1).into() })
+        let (coord, left) = round::rounded(Vec2d::new(point.0, point.1));
+        Ok(Self { face, gap, point, coord, left })
     }
-    fn said(&self) -> Said<4> {
-        Said::done(places::numbers(FaceIJK::new(Face::new_unchecked(self.face), self.coord)))
+    /// The place, and the bits of the leftovers.
+    fn said(&self) -> Said<6> {
+        let [f, i, j, k] = places::numbers(FaceIJK::new(Face::new_unchecked(self.face), self.coord));
+        Said::done([f, i, j, k, self.left[0].to_bits(), self.left[1].to_bits()])
     }
 }
 
@@ -160,8 +165,20 @@ fn border_allowance(v: Vector, level: u32) -> f64 {
     size * (ROUNDINGS + off_by(v)) + size * size * f64::EPSILON * 8.
 }
 
+/// How far the leftovers of the two sides may lie apart: on the way from one plane point to the other x1 and x2 change by at most 2/√3
+/// of it, and on the nearest face their own roundings come to less than 2^-50 at level 0, both sides' together.
+fn left_allowance(level: u32, apart: f64) -> f64 {
+    apart / SIN60 + 7f64.powf(f64::from(level) / 2.) * 4. * f64::EPSILON
+}
+
+/// How far leftovers lie apart, the shorter way round: from just below 1 the next is 0.
+fn left_apart(a: Left, b: Left) -> f64 {
+    let way = |n: usize| (a[n] - b[n]).abs();
+    (0..2).map(|n| way(n).min(1. - way(n))).fold(0., f64::max)
+}
+
 /// How far a point lies outside a hexagon: below zero for one inside.
-fn outside((x, y): (f64, f64), hexagon: CoordIJK) -> f64 {
+pub fn outside((x, y): (f64, f64), hexagon: CoordIJK) -> f64 {
     let centre = Vec2d::from(hexagon);
     let (x, y) = (x - centre.x, y - centre.y);
     let farthest = [x, x / 2. + y * SIN60, x / 2. - y * SIN60].iter().fold(0f64, |most, d| most.max(d.abs()));
@@ -183,27 +200,41 @@ impl Most {
     }
 }
 
-/// What was seen of one level: how many places differ and how far the point was from the Rust's hexagon; how far apart the
-/// plane points of all places were.
+/// What was seen of one level: how many places differ, how far the point was from the Rust's hexagon and the largest margin there;
+/// how far apart the plane points and the leftovers of all places were.
 #[derive(Clone, Copy, Default)]
 struct Level {
     compared: u64,
     differed: u64,
     border: Most,
+    margin: f64,
     apart: Most,
+    left: Most,
 }
 
 fn table(levels: &[Level; 16]) {
-    println!("  | level | compared with the Rust | places differ | farthest from the border (of the allowance) | plane points apart (of the allowance) |");
-    println!("  |---|---|---|---|---|");
-    for (n, l) in levels.iter().enumerate() {
-        let (b, a) = (l.border, l.apart);
-        println!("  | {n} | {} | {} | {:.1e} ({:.2}) | {:.1e} ({:.2}) |", l.compared, l.differed, b.length, b.part, a.length, a.part);
+    print!("  | level | compared with the Rust | places differ | farthest from the border (of the allowance) | largest margin there ");
+    println!("| plane points apart (of the allowance) | leftovers apart (of the allowance) |");
+    println!("  |---|---|---|---|---|---|---|");
+    for (n, Level { compared, differed, border, margin, apart, left }) in levels.iter().enumerate() {
+        let [border, apart, left] = [border, apart, left].map(|m| format!("{:.1e} ({:.2})", m.length, m.part));
+        println!("  | {n} | {compared} | {differed} | {border} | {margin:.1e} | {apart} | {left} |");
     }
 }
 
-/// The Rust beside document 01's formulas: the same face, plane points within the allowance, and so the same hexagon or one
-/// whose border is that near.
+/// A place that is another than the Rust's: the point lies near the border of the Rust's hexagon, and its margin tells so.
+fn differs(tally: &mut Tally, seen: &mut Level, v: Vector, level: u32, rule: &ByRule, theirs: CoordIJK) {
+    let beyond = outside(rule.point, theirs);
+    seen.differed += 1;
+    tally.also(seen.border.note(beyond, border_allowance(v, level)), || format!("place {v:?} {level}: {beyond:e} from the border"));
+    let margin = f64::from_bits(ours::margin(rule.left).values[0]);
+    seen.margin = seen.margin.max(margin);
+    let most = beyond + 7f64.powf(f64::from(level) / 2.) * ROUNDINGS;
+    tally.also(margin <= most, || format!("place {v:?} {level}: {beyond:e} from the border with a margin of {margin:e}"));
+}
+
+/// The Rust beside document 01's formulas: the same face, plane points within the allowance, leftovers not farther apart than these
+/// let them, and the same hexagon or one whose border is that near.
 fn beside_rust(tally: &mut Tally, seen: &mut Level, v: Vector, level: u32, rule: &ByRule) {
     let resolution = Resolution(level as u8);
     let theirs = FaceIJK::from_vec3d(vec3d(v), resolution);
@@ -216,10 +247,12 @@ fn beside_rust(tally: &mut Tally, seen: &mut Level, v: Vector, level: u32, rule:
     let apart = (point.x - rule.point.0).hypot(point.y - rule.point.1);
     seen.compared += 1;
     tally.also(seen.apart.note(apart, allowance(v, level, rule.point)), || format!("place {v:?} {level}: {apart:e} apart"));
+    let (rounded, left) = round::rounded(point);
+    tally.also(rounded == theirs.coord, || format!("place {v:?} {level}: the Rust's plane point is in another hexagon than its place"));
+    let far = left_apart(left, rule.left);
+    tally.also(seen.left.note(far, left_allowance(level, apart)), || format!("place {v:?} {level}: leftovers {far:e} apart"));
     if theirs.coord != rule.coord {
-        let beyond = outside(rule.point, theirs.coord);
-        seen.differed += 1;
-        tally.also(seen.border.note(beyond, border_allowance(v, level)), || format!("place {v:?} {level}: {beyond:e} from the border"));
+        differs(tally, seen, v, level, rule, theirs.coord);
     }
 }
 
@@ -231,20 +264,30 @@ fn by_rule(frame: &Frame, v: Vector, level: u32) -> Result<ByRule, u32> {
     }
 }
 
-fn said_of(rule: &Result<ByRule, u32>) -> Said<4> {
+fn said_of(rule: &Result<ByRule, u32>) -> Said<6> {
     rule.as_ref().map_or_else(|&n| Said::refused(n), ByRule::said)
 }
 
-/// The place by document 01 with the default frame, unless the Rust has another.
-pub fn agreed_place(frame: &Frame, v: Vector, level: u32) -> Option<Said<4>> {
+/// The place by document 01 with the default frame, unless the Rust has another; the leftovers are those of document 01's point.
+pub fn agreed_place(frame: &Frame, v: Vector, level: u32) -> Option<Said<6>> {
     let said = said_of(&by_rule(frame, v, level));
-    let rust = || Said::done(places::numbers(FaceIJK::from_vec3d(vec3d(v), Resolution(level as u8))));
-    (said.number != 0 || said == rust()).then_some(said)
+    let rust = || places::numbers(FaceIJK::from_vec3d(vec3d(v), Resolution(level as u8)));
+    (said.number != 0 || said.values[..4] == rust()).then_some(said)
+}
+
+/// The hexagon and the leftovers by our own plane point on a face and our own rounding of it.
+fn in_two_steps(frame: &Frame, face: u32, level: u32, v: Vector) -> Said<5> {
+    let [x, y] = ours::plane_point(&frame.numbers, face, level, v).values.map(f64::from_bits);
+    ours::round(x, y)
 }
 
 fn place(tally: &mut Tally, seen: &mut [Level; 16], frame: &Frame, v: Vector, level: u32) {
-    let rule = by_rule(frame, v, level);
-    tally.same(ours::place(&frame.numbers, v, level), said_of(&rule), || format!("place {v:?} {level}"));
+    let (rule, said) = (by_rule(frame, v, level), ours::place(&frame.numbers, v, level));
+    tally.same(said, said_of(&rule), || format!("place {v:?} {level}"));
+    if said.number == 0 {
+        let steps = in_two_steps(frame, said.values[0] as u32, level, v);
+        tally.also(steps.number == 0 && said.values[1..] == steps.values, || format!("place {v:?} {level}: in two steps {steps:?}"));
+    }
     if let (true, Ok(rule)) = (frame.default, rule) {
         beside_rust(tally, &mut seen[level as usize], v, level, &rule);
     }
@@ -509,10 +552,10 @@ fn batch_refusal(frame: &Frame, level: u32, input: usize, out: usize, first: usi
     }
 }
 
-/// The four numbers of a row: what `place` says of its vector.
+/// The four numbers of a row: what `place` says of its vector, without the leftovers.
 fn row(frame: &Frame, v: &[f64], level: u32) -> [i32; 4] {
     let said = ours::place(&frame.numbers, [v[0], v[1], v[2]], level);
-    if said.number == 0 { said.values.map(|x| x as i32) } else { [-(said.number as i32), 0, 0, 0] }
+    if said.number == 0 { std::array::from_fn(|n| said.values[n] as i32) } else { [-(said.number as i32), 0, 0, 0] }
 }
 
 /// Compares a batch row by row with `place`; every row counts as a question.

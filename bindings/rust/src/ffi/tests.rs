@@ -37,6 +37,13 @@ fn refused_doubles(number: u32, lent: usize, ask: impl Fn(&mut [f64]) -> u32) {
     assert!(out.iter().all(|&n| n == OLD_DOUBLE), "a refusal {number} wrote");
 }
 
+/// The same where numbers and doubles are lent.
+fn refused_both(number: u32, (numbers, doubles): (usize, usize), ask: impl Fn(&mut [u32], &mut [f64]) -> u32) {
+    let (mut out, mut left) = (vec![OLD; numbers], vec![OLD_DOUBLE; doubles]);
+    assert_eq!(ask(&mut out, &mut left), number);
+    assert!(out.iter().all(|&n| n == OLD) && left.iter().all(|&n| n == OLD_DOUBLE), "a refusal {number} wrote");
+}
+
 /// Lends two more than needed and expects these values, and past them the numbers as they were.
 fn answers(values: &[u32], ask: impl Fn(&mut [u32]) -> u32) {
     let mut out = vec![OLD; values.len() + 2];
@@ -48,6 +55,15 @@ fn answers_doubles(values: &[f64], ask: impl Fn(&mut [f64]) -> u32) {
     let mut out = vec![OLD_DOUBLE; values.len() + 2];
     assert_eq!(ask(&mut out), 0);
     assert_eq!(out, [values, &[OLD_DOUBLE, OLD_DOUBLE]].concat());
+}
+
+/// The same of numbers and doubles, of which the bits are compared: plus zero is not minus zero.
+fn answers_both(values: &[u32], doubles: &[f64], ask: impl Fn(&mut [u32], &mut [f64]) -> u32) {
+    let (mut out, mut left) = (vec![OLD; values.len() + 2], vec![OLD_DOUBLE; doubles.len() + 2]);
+    assert_eq!(ask(&mut out, &mut left), 0);
+    let bits = |doubles: &[f64]| doubles.iter().map(|double| double.to_bits()).collect::<Vec<_>>();
+    assert_eq!(out, [values, &[OLD, OLD]].concat());
+    assert_eq!(bits(&left), bits(&[doubles, &[OLD_DOUBLE, OLD_DOUBLE]].concat()));
 }
 
 #[test]
@@ -125,14 +141,52 @@ fn alike_refuses_2_6() {
 
 #[test]
 fn round_refuses_2_6_9() {
-    refused(2, 2, |out| round(0.0, 0.0, out));
-    refused(2, 2, |out| round(f64::NAN, 0.0, out));
-    for bad in [f64::NAN, f64::INFINITY, f64::NEG_INFINITY] {
-        refused(6, 3, |out| round(bad, 0.0, out));
-        refused(6, 3, |out| round(f64::MAX, bad, out));
+    for lent in [(2, 2), (0, 2), (3, 1), (3, 0), (2, 1), (0, 0)] {
+        refused_both(2, lent, |out, left| round(0.0, 0.0, out, left));
+        refused_both(2, lent, |out, left| round(f64::NAN, 0.0, out, left));
+        refused_both(2, lent, |out, left| round(f64::MAX, 0.0, out, left));
     }
-    refused(9, 3, |out| round(0.0, -33554432.0, out));
-    answers(&[1, 0, 0], |out| round(1.0, 0.0, out));
+    for bad in [f64::NAN, f64::INFINITY, f64::NEG_INFINITY] {
+        refused_both(6, (3, 2), |out, left| round(bad, 0.0, out, left));
+        refused_both(6, (3, 2), |out, left| round(bad, f64::MAX, out, left));
+        refused_both(6, (3, 2), |out, left| round(f64::MAX, bad, out, left));
+    }
+    for far in [33554432.0, -33554432.0, f64::MAX] {
+        refused_both(9, (3, 2), |out, left| round(far, 0.0, out, left));
+        refused_both(9, (3, 2), |out, left| round(0.0, far, out, left));
+    }
+    answers_both(&[1, 0, 0], &[0.0, 0.0], |out, left| round(1.0, 0.0, out, left));
+    answers_both(&[0, 0, 0], &[0.0, 0.0], |out, left| round(-0.0, -0.0, out, left));
+    // r1 and r2 in their order, and those of |x|.
+    answers_both(&[0, 0, 0], &[0.25, 0.0], |out, left| round(0.25, 0.0, out, left));
+    answers_both(&[0, 1, 1], &[0.75, 0.0], |out, left| round(-0.75, 0.0, out, left));
+}
+
+#[test]
+fn margin_refuses_2_5() {
+    refused_doubles(2, 0, |out| margin(0.25, 0.0, out));
+    for bad in [f64::NAN, f64::INFINITY, f64::NEG_INFINITY, 1.0, 1.5, -5e-324, -1.0] {
+        refused_doubles(2, 0, |out| margin(bad, bad, out));
+        refused_doubles(5, 1, |out| margin(bad, 0.25, out));
+        refused_doubles(5, 1, |out| margin(0.25, bad, out));
+    }
+    // Each leftover is heard; minus zero is not below 0.
+    for (r1, r2, value) in [
+        (0.0, 0.0, 0.5),
+        (-0.0, -0.0, 0.5),
+        (0.25, 0.0, 0.25),
+        (0.0, 0.375, 0.125),
+        (0.25, 0.125, 0.3125),
+        (0.75, 0.25, 0.125),
+        (0.875, 0.875, 0.375),
+        (0.5, 0.0, 0.0),
+        (0.0, 0.5, 0.0),
+        (0.5, 0.5, 0.0),
+    ] {
+        answers_doubles(&[value], |out| margin(r1, r2, out));
+    }
+    let largest = 1.0f64.next_down();
+    answers_doubles(&[0.5 - 2f64.powi(-51)], |out| margin(largest, largest, out));
 }
 
 #[test]
@@ -280,9 +334,7 @@ fn first_name_hears_every_argument() {
 }
 
 fn nearest_keeps(number: u32, frame: &[f64], vector: [f64; 3], faces: usize, distances: usize) {
-    let (mut face, mut distance) = (vec![OLD; faces], vec![OLD_DOUBLE; distances]);
-    assert_eq!(nearest(frame, vector, &mut face, &mut distance), number);
-    assert!(face.iter().all(|&n| n == OLD) && distance.iter().all(|&n| n == OLD_DOUBLE));
+    refused_both(number, (faces, distances), |face, distance| nearest(frame, vector, face, distance));
 }
 
 #[test]
@@ -335,16 +387,25 @@ fn plane_point_refuses_1_2_3_4_6_7_8() {
 #[test]
 fn place_refuses_1_2_4_6_7_8() {
     let frame = default_frame();
+    let short = [(3, 2), (0, 2), (4, 1), (4, 0), (3, 1), (0, 0)];
     for bad in bad_frames() {
-        refused(1, 4, |out| place(&bad, NAN3, 16, out));
-        refused(1, 3, |out| place(&bad, NAN3, 16, out));
+        for lent in [(4, 2)].into_iter().chain(short) {
+            refused_both(1, lent, |out, left| place(&bad, NAN3, 16, out, left));
+        }
     }
-    refused(2, 3, |out| place(&frame, NAN3, 16, out));
-    refused(4, 4, |out| place(&frame, NAN3, 16, out));
-    refused(6, 4, |out| place(&frame, NAN3, 15, out));
-    refused(7, 4, |out| place(&frame, LONG, 15, out));
-    refused(8, 4, |out| place(&one_sided_frame(), [0.0, 0.0, -1.0], 15, out));
-    answers(&[0, 0, 0, 0], |out| place(&one_sided_frame(), [0.0, 0.0, 1.0], 15, out));
+    for lent in short {
+        refused_both(2, lent, |out, left| place(&frame, NAN3, 16, out, left));
+        refused_both(2, lent, |out, left| place(&frame, X, 15, out, left));
+    }
+    refused_both(4, (4, 2), |out, left| place(&frame, NAN3, 16, out, left));
+    refused_both(6, (4, 2), |out, left| place(&frame, NAN3, 15, out, left));
+    refused_both(7, (4, 2), |out, left| place(&frame, LONG, 15, out, left));
+    refused_both(8, (4, 2), |out, left| place(&one_sided_frame(), [0.0, 0.0, -1.0], 15, out, left));
+    answers_both(&[0, 0, 0, 0], &[0.0, 0.0], |out, left| place(&one_sided_frame(), [0.0, 0.0, 1.0], 15, out, left));
+    // About 5.25 along x, to one side and to the other.
+    let left_over = 7.0 * (0.6 / 0.8) - 5.0;
+    answers_both(&[0, 5, 0, 0], &[left_over, 0.0], |out, left| place(&one_sided_frame(), [0.6, 0.0, 0.8], 2, out, left));
+    answers_both(&[0, 0, 5, 5], &[left_over, 0.0], |out, left| place(&one_sided_frame(), [-0.6, 0.0, 0.8], 2, out, left));
 }
 
 fn batch_keeps(number: u32, frame: &[f64], level: u32, input: &[f64], (lent, first, counts): (usize, usize, usize)) {
@@ -379,7 +440,7 @@ fn batch_writes_its_rows_alone() {
     let (mut out, mut refused) = (vec![7; 24], [55; 2]);
     assert_eq!(batch(&frame, 9, &input, &mut out, 1, &mut refused), 0);
     let mut alone = [0; 4];
-    assert_eq!(place(&frame, X, 9, &mut alone), 0);
+    assert_eq!(place(&frame, X, 9, &mut alone, &mut [0.0; 2]), 0);
     let good = alone.map(|n| n as i32);
     assert_eq!(out, [[7; 4], good, [-6, 0, 0, 0], [-7, 0, 0, 0], good, [7; 4]].concat());
     assert_eq!(refused, [2, 55]);
@@ -413,9 +474,7 @@ fn corners_refuse_2_3_4_10() {
 type Border = fn(Four, u32, u32, u32, &mut [u32], &mut [f64]) -> u32;
 
 fn border_keeps(border: Border, number: u32, centre: Four, level: u32, (start, length): (u32, u32), (marked, pointed): (usize, usize)) {
-    let (mut marks, mut points) = (vec![OLD; marked], vec![OLD_DOUBLE; pointed]);
-    assert_eq!(border(centre, level, start, length, &mut marks, &mut points), number);
-    assert!(marks.iter().all(|&n| n == OLD) && points.iter().all(|&n| n == OLD_DOUBLE));
+    refused_both(number, (marked, pointed), |marks, points| border(centre, level, start, length, marks, points));
 }
 
 #[test]
@@ -517,9 +576,7 @@ fn globe_keeps(
     (start, length): (u32, u32),
     lent: (usize, usize),
 ) {
-    let (mut marks, mut points) = (vec![OLD; lent.0], vec![OLD_DOUBLE; lent.1]);
-    assert_eq!(border(frame, centre, level, start, length, &mut marks, &mut points), number);
-    assert!(marks.iter().all(|&n| n == OLD) && points.iter().all(|&n| n == OLD_DOUBLE));
+    refused_both(number, lent, |marks, points| border(frame, centre, level, start, length, marks, points));
 }
 
 #[test]

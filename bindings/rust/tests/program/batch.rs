@@ -118,8 +118,9 @@ fn a_million_lines() {
     assert_eq!(answers.len(), 1_000_000);
     // Both sides of each border between blocks, and rows in between.
     for n in (0..1_000_000).filter(|n| n % 99_991 == 7 || matches!(n % (40 * 4096), 0 | 4095)) {
+        // The place alone: a row has no leftovers.
         let alone = asked(&format!("place 9 {}", line(n).replace(',', " "))).1;
-        assert_eq!(alone.trim_end().replace(' ', ","), answers[n as usize], "line {n}");
+        assert_eq!(alone.split(' ').take(4).collect::<Vec<_>>().join(","), answers[n as usize], "line {n}");
     }
     for n in (0..1_000_000).step_by(1000) {
         assert_eq!([answers[n + 500], answers[n + 501]], ["refused,6,BadNumber,", "refused,14,BadLine,"], "line {n}");

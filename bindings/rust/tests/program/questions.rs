@@ -13,9 +13,9 @@ fn refuses(words: &str, refusal: &str) {
 
 #[test]
 fn vectors() {
-    answers("place 9 1 0 0", "9 0 3944 11640");
-    answers("place 9 0.6 0 0.8", "3 9433 0 4829");
-    answers("place 9 0.6 -0 8e-1", "3 9433 0 4829");
+    answers("place 9 1 0 0", "9 0 3944 11640 0.45224118460464524 0.663042252203013");
+    answers("place 9 0.6 0 0.8", "3 9433 0 4829 0.5130770704708993 0.6781914251287162");
+    answers("place 9 0.6 -0 8e-1", "3 9433 0 4829 0.5130770704708993 0.6781914251287162");
     answers("nearest 0.6 0 0.8", "3 0.2048909739668598");
     refuses("place 16 1 0 0", "4 BadLevel");
     refuses("place 9 nan nan nan", "6 BadNumber");
@@ -25,9 +25,21 @@ fn vectors() {
 }
 
 #[test]
+fn margins() {
+    answers("margin 9 1 0 0", "0.057641718403829145");
+    answers("margin 9 0.6 0 0.8", "0.09563424779980778");
+    refuses("margin 16 nan 0 0", "4 BadLevel");
+    refuses("margin 9 nan nan nan", "6 BadNumber");
+    refuses("margin 9 0 0 0", "7 OffSphere");
+    assert!(asked("margin 9 nan nan nan").2.ends_with(": the receiver has no fix, keep its feed\n"));
+}
+
+#[test]
 fn the_plane() {
-    answers("round 0.5 -0.5", "1 0 1");
-    answers("round -0.9 -0.9", "0 0 1");
+    answers("round 0 -0", "0 0 0 0 0");
+    answers("round -0.25 0", "0 0 0 0.25 0");
+    answers("round 0.5 -0.5", "1 0 1 0.7886751345948129 0.5773502691896257");
+    answers("round -0.9 -0.9", "0 0 1 0.41961524227066316 0.03923048454132627");
     answers("centre 0 2 0", "-1 1.7320508075688772");
     answers("meet 0 0 2 2 0 2 2 0", "1 1");
     answers("meet 0 0 1 0 -1e-300 1 -1e-300 -1", &format!("-0.{}1 0", "0".repeat(299)));

@@ -84,6 +84,17 @@ fn a_batch_becomes_a_region() {
     assert_eq!(folder.names(), ["two.region"]);
 }
 
+/// An answer of `place` has leftovers after its four numbers, and is told from a row.
+#[test]
+fn an_answer_of_place_is_no_row() {
+    let folder = Folder::of("leftovers");
+    let answer = folder.asked("place 9 0.6 0 0.8").1;
+    let said = "heddleplume: refused 14 BadLine: line 1 is `3 9433 0 4829 0.5130770704708993 0.6781914251287162`, not FACE,I,J,K or \
+                FACE I J K in whole numbers: write it so, or leave it out\n";
+    assert_eq!(folder.fed("region write 9 one.region", answer.as_bytes()), (Some(1), String::new(), said.into()));
+    assert!(folder.names().is_empty());
+}
+
 /// Nothing goes out, to neither place, and the old file stays as it was.
 #[test]
 fn refused_lines_write_nothing() {

@@ -21,6 +21,10 @@ fn words_that_are_no_question() {
     misused("place 9 0.6 0", "Z is missing");
     misused("place 9 0.6 0 0.8 1", "`1` is one word too many");
     misused("place -9 0.6 0 0.8", "LEVEL is `-9`, which is no whole number");
+    misused("margin", "LEVEL is missing\nusage: heddleplume margin LEVEL X Y Z\nfor example: heddleplume margin 9 0.6 0 0.8\n");
+    misused("margin 0.5 0.5", "LEVEL is `0.5`, which is no whole number");
+    misused("margin 9 0.6 0", "Z is missing");
+    misused("margin 9 0.6 0 0.8 1", "`1` is one word too many");
     misused("nearest 0,6 0 0,8", "X is `0,6`, which is no decimal");
     misused("turn 0 1 0 0 left", "`left` stands where ccw or cw belongs");
     misused("border 0 1 1 0 0 0", "LENGTH is missing");
@@ -73,7 +77,7 @@ fn examples_of_the_help() {
     let listed = help.lines().filter_map(|line| line.strip_prefix("  "));
     let named = listed.filter_map(|line| [first_words(line, 2), first_words(line, 1)].into_iter().find(is_question));
     let names: Vec<String> = named.collect();
-    assert_eq!(names.len(), 24, "{names:?}");
+    assert_eq!(names.len(), 25, "{names:?}");
     // The first of those on a region writes the file that the others ask.
     let folder = Folder::of("examples");
     for name in names {

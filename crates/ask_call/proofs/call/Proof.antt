@@ -37,10 +37,10 @@ returns-2 c =
 returns-3 : tie.Need-returns-3
 unfolding replyOf vecAt
 returns-3 c =
-    let s = c .before .before .before .before .before .before .before .before .before .before .before in
+    let s = c .before .before .before .before .before .before .before .before .before .before .before .before .before .before in
     let ns = s .args .q .numbers in
     let ds = s .args .q .doubles in
-    on s Place (c .before .before .before .before .enum-told3 .given .1) (place-of (s .pre .0) (s .pre .1) (s .args .frame .now) (numberAt ns 0) (vecAt ds 1) (c .before .before .place .ensures))
+    on s Place (c .before .before .before .before .before .before .before .enum-told3 .given .1) (place-of (s .pre .0) (s .pre .1) (s .args .frame .now) (numberAt ns 0) (vecAt ds 1) (c .before .before .before .before .place .ensures))
 
 returns-4 : tie.Need-returns-4
 unfolding replyOf
@@ -122,7 +122,7 @@ call-spec =
     needs) (λ c κs. search needs) (λ c. search needs) (λ c. search needs) (λ c κs. search needs) (λ c. search needs) (λ c. search
     needs) (λ c. search needs) (λ c. search needs) (λ c. search needs) (λ c κs. search needs) (λ c. search needs) (λ c κs. search
     needs) (λ c. search needs) (λ c κs. search needs) (λ c. search needs) (λ c. search needs) (λ c κs. search needs) (λ c κs.
-    search needs) returns (λ c. search needs) (λ c. search needs) returns-2 (λ c. search needs) returns-3 (λ c. search needs)
+    search needs) returns (λ c. search needs) (λ c. search needs) returns-2 (λ c. search needs) (λ c. search needs) returns-3 (λ c. search needs)
     returns-4 (λ c. search needs) (λ c. search needs) returns-5 (λ c. search needs) (λ c. search needs) returns-6 (λ c. search
     needs) returns-7 (λ c. search needs) returns-8 (λ c. search needs) (λ c. search needs) returns-9 (λ c. search needs) (λ c.
     search needs) returns-10 returns-11 returns-12 (λ c. search needs) (λ c. search needs) returns-13)

@@ -23,9 +23,9 @@ on s a {k = k} {ns = ns} {ds = ds} e h grid =
 returns : tie.Need-returns
 unfolding replyOf
 returns c =
-    let s = c .before .before .before .before .before .before .before .before .before .before in
+    let s = c .before .before .before .before .before .before .before .before .before .before .before .before .before in
     let ds = s .args .q .doubles in
-    on s Round (c .before .before .before .before .enum-told .given .1) (round (s .pre .0) (s .pre .1) (pointAt ds 0) (c .before .before .round .ensures))
+    on s Round (c .before .before .before .before .before .before .before .enum-told .given .1) (round (s .pre .0) (s .pre .1) (pointAt ds 0) (c .before .before .before .before .round .ensures))
 
 returns-2 : tie.Need-returns-2
 unfolding replyOf
@@ -98,6 +98,6 @@ call-grid-spec =
     needs) (λ c. search needs) (λ c. search needs) (λ c. search needs) (λ c κs. search needs) (λ c. search needs) (λ c. search
     needs) (λ c. search needs) (λ c. search needs) (λ c. search needs) (λ c. search needs) (λ c. search needs) (λ c. search
     needs) (λ c. search needs) (λ c. search needs) (λ c κs. search needs) (λ c. search needs) (λ c. search needs) (λ c. search
-    needs) (λ c. search needs) (λ c. search needs) (λ c. search needs) (λ c κs. search needs) (λ c. search needs) returns (λ c.
+    needs) (λ c. search needs) (λ c. search needs) (λ c. search needs) (λ c κs. search needs) (λ c. search needs) (λ c. search needs) returns (λ c.
     search needs) returns-2 (λ c. search needs) returns-3 (λ c. search needs) returns-4 (λ c. search needs) returns-5 (λ c.
     search needs) returns-6 (λ c. search needs) returns-7 (λ c. search needs) returns-8 (λ c. search needs) returns-9 returns-10)

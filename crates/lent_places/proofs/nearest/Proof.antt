@@ -3,10 +3,14 @@ use borrow.Author.Needs.{needs}
 use borrow.Author.Tests.{ltb-false}
 use lib.Dec.{ltb}
 use lib.ListN.{length}
-use mathlib.Core.Path.{sym, ap, _∙_}
+use mathlib.Core.List.{[], _∷_}
+use mathlib.Core.Path.{refl, sym, ap, _∙_}
 use Rattle.reply.proofs.Entries.{neither}
+use Rattle.vec3d.specs.Frame.{badFrame}
 use Rattle.vec3d.specs.Nearest.{saidNearest, nearestReply}
-use Rattle.lent_places.proofs.Ending.{nearest-short, nearest-answers, nearest-refuses}
+use Rattle.lent.proofs.Both.{parts-short, parts-answers, parts-refuses}
+use Rattle.lent_places.specs.Places.{vec}
+use Rattle.lent_places.proofs.Ending.{nearest-said}
 use Rattle.lent_places.proofs.nearest.Statement.{statement}
 use Rattle.lent_places.proofs.nearest.Tie as tie
 
@@ -21,26 +25,31 @@ put-doubles-requires c κs =
 returns : tie.Need-returns
 returns c =
     let a = c .before .before .before .before .before .args in
-    nearest-short (a .frame .now) _ (a .face .now) (a .distance .now) _ (c .before .if1 .taken) (c .frame-or-rows .ensures)
+    let s = a .frame .now in
+    parts-short (badFrame s) (nearestReply s (vec (a .x) (a .y) (a .z))) 1 1 (a .face .now) (a .distance .now) _ (c .before .if1 .taken) (c .frame-or-rows .ensures)
 
 returns-2 : tie.Need-returns-2
 returns-2 c =
     let b = c .before .before .before .before .before .before .before .before .before .before .before in
     let e = b .before .before .before .before in
     let a = e .before .before .before .before .args in
-    nearest-answers (a .frame .now) _ (a .face .now) (a .distance .now) (b .nearest .given .0 .0) _ (c .before .before .put-doubles .last .0) (e .if1 .left)
-    (ap saidNearest (sym (b .nearest .given .1)) ∙
-    (b .before .before .nearest-face .ensures ∙ ap (nearestReply (a .frame .now)) (b .before .before .before .new .ensures)))
-    (c .before .before .before .before .before .before .before .put .ensures) (c .before .before .put-doubles .ensures)
+    let s = a .frame .now in
+    let p = vec (a .x) (a .y) (a .z) in
+    let n = b .nearest .given .0 .0 in
+    parts-answers (badFrame s) (nearestReply s p) 1 1 (a .face .now) (a .distance .now) (nearest-said s p) (e .if1 .left) _ (n .face ∷ []) _ (n .distance ∷ [])
+    (c .before .before .put-doubles .last .0)
+    (ap saidNearest (sym (b .nearest .given .1)) ∙ (b .before .before .nearest-face .ensures ∙ ap (nearestReply s) (b .before .before .before .new .ensures)))
+    refl refl (c .before .before .before .before .before .before .before .put .ensures) (c .before .before .put-doubles .ensures)
 
 returns-3 : tie.Need-returns-3
 returns-3 c =
     let b = c .before .before in
     let e = b .before .before .before .before in
     let a = e .before .before .before .before .args in
-    nearest-refuses (a .frame .now) _ (a .face .now) (a .distance .now) (b .nearest2 .given .0 .0) _ (e .if1 .left)
-    (ap saidNearest (sym (b .nearest2 .given .1)) ∙
-    (b .before .before .nearest-face .ensures ∙ ap (nearestReply (a .frame .now)) (b .before .before .before .new .ensures)))
+    let s = a .frame .now in
+    let p = vec (a .x) (a .y) (a .z) in
+    parts-refuses (badFrame s) (nearestReply s p) 1 1 (a .face .now) (a .distance .now) (nearest-said s p) (e .if1 .left) 2 _ (b .nearest2 .given .0 .0)
+    (ap saidNearest (sym (b .nearest2 .given .1)) ∙ (b .before .before .nearest-face .ensures ∙ ap (nearestReply s) (b .before .before .before .new .ensures)))
     (c .number .ensures)
 
 pub nearest-spec : {M : Type 1} → statement M

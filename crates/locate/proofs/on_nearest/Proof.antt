@@ -8,8 +8,7 @@ use Rattle.reply.specs.Replies.{reply}
 use Rattle.vec3d.proofs.Passing.{passed-long}
 use Rattle.vec3d.proofs.Choosing.{nearest-in}
 use Rattle.face_projection.specs.Projection.{projectedOf}
-use Rattle.faceijk.specs.Places.{placeValues}
-use Rattle.locate.specs.Locating.{nearAxes, placeOf}
+use Rattle.locate.specs.Locating.{nearAxes, placeOf, spotOf, spotValues}
 use Rattle.locate.proofs.Entering.{in-front, is-behind, front-verdict, front-refuses}
 use Rattle.locate.proofs.on_nearest.Statement.{statement}
 use Rattle.locate.proofs.on_nearest.Tie as tie
@@ -35,7 +34,7 @@ returns c =
     let s = a .frame .now in
     let front = in-front (nearAxes s (a .p)) (a .level) (a .p) _ (sym (projected at) ∙ c .before .before .answer .given .1) in
     (rw (front .1, start .pre .1) at (c .rounded .ensures))
-    ∙ ap (λ (v : Verdict). reply 4 v (placeValues (placeOf s (a .level) (a .p)))) (front-verdict s (a .level) (a .p) (start .pre .0) (front .0))
+    ∙ ap (λ (v : Verdict). reply 6 v (spotValues (spotOf s (a .level) (a .p)))) (front-verdict s (a .level) (a .p) (start .pre .0) (front .0))
 
 returns-2 : tie.Need-returns-2
 returns-2 c =

@@ -8,8 +8,7 @@ use Rattle.reply.proofs.Entries.{refuses}
 use Rattle.reply.proofs.Numbers.{same-verdict}
 use Rattle.vec3d.specs.Vectors.{vectorReasons}
 use Rattle.vec3d.proofs.Series.{series-fine, series-refused}
-use Rattle.faceijk.specs.Places.{placeValues}
-use Rattle.locate.specs.Locating.{placeOf, frontReasons}
+use Rattle.locate.specs.Locating.{spotOf, spotValues, frontReasons}
 use Rattle.locate.proofs.place_of.Statement.{statement}
 use Rattle.locate.proofs.place_of.Tie as tie
 
@@ -28,7 +27,7 @@ returns c =
     let fine = sym (same-verdict (c .before .before .before .verdict .ensures)) ∙ c .before .enum-told .given .1 in
     rw (n .new .ensures) at
     (c .on-nearest .ensures
-    ∙ ap (λ (v : Verdict). reply 4 v (placeValues (placeOf (a .frame .now) (a .level) p)))
+    ∙ ap (λ (v : Verdict). reply 6 v (spotValues (spotOf (a .frame .now) (a .level) p)))
     (sym (series-fine (vectorReasons p) (frontReasons (a .frame .now) (a .level) p) fine)))
 
 returns-2 : tie.Need-returns-2
@@ -37,7 +36,7 @@ returns-2 c =
     let a = n .before .before .args in
     let p = n .new .result in
     rw (n .new .ensures) at
-    (refuses 4 (first (vectorReasons p ++ frontReasons (a .frame .now) (a .level) p)) (placeValues (placeOf (a .frame .now) (a .level) p)) _
+    (refuses 6 (first (vectorReasons p ++ frontReasons (a .frame .now) (a .level) p)) (spotValues (spotOf (a .frame .now) (a .level) p)) _
     (series-refused (vectorReasons p) (frontReasons (a .frame .now) (a .level) p) _
     (sym (same-verdict (c .before .before .before .verdict .ensures)) ∙ c .before .verdict2 .given .1)))
 

@@ -8,9 +8,10 @@ use Rattle.locate.proofs.rounded.Tie as tie
 
 returns : tie.Need-returns
 returns c =
-    let a = c .before .before .before .before .before .args in
+    let m = c .before .before .before .before in
+    let a = m .before .before .before .args in
     rw (c .new .ensures)
-    (round-answers (a .face) _ (a .point) (ap saidRounded (sym (c .before .before .answer .given .1)) ∙ c .before .before .before .before .to-ijk .ensures))
+    (round-answers (a .face) _ (a .point) (ap saidRounded (sym (m .answer .given .1)) ∙ m .before .before .to-ijk .ensures))
 
 returns-2 : tie.Need-returns-2
 returns-2 c =

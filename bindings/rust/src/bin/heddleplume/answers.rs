@@ -1,6 +1,6 @@
 //! The answers to single questions, as text.
-use heddleplume::{Border, BoundaryPoint, CellLevel, Direction, FaceIJK, Frame, Mark, Refusal, SpherePoint, Vec2d, Vec3d};
-use heddleplume::{face_direction, locate, sphere_point, square_root};
+use heddleplume::{Border, BoundaryPoint, CellLevel, CoordIJK, Direction, FaceIJK, Frame, Leftovers, Located, Mark, Refusal, SpherePoint};
+use heddleplume::{Vec2d, Vec3d, face_direction, locate, sphere_point, square_root};
 
 use crate::arguments::Words;
 use crate::failure::Failure;
@@ -12,6 +12,7 @@ type Answer = Result<String, Failure>;
 pub fn to(name: &str, words: &[String]) -> Answer {
     let answer: fn(&mut Words) -> Answer = match name {
         "place" => place,
+        "margin" => margin,
         "nearest" => nearest,
         "border" => |words| border(words, 6, FaceIJK::hexagon_boundary, plane_point_text),
         "pentagon" => |words| border(words, 5, FaceIJK::pentagon_boundary, plane_point_text),
@@ -44,10 +45,23 @@ fn point_text(point: Vec2d) -> String {
     format!("{} {}", point.x, point.y)
 }
 
-fn place(words: &mut Words) -> Answer {
+fn left_text(left: Leftovers) -> String {
+    format!("{} {}", left.r1, left.r2)
+}
+
+fn located(words: &mut Words) -> Result<Located, Failure> {
     let (level, vector) = (words.cell_level()?, words.vector()?);
     words.end()?;
-    Ok(place_text(locate(&Frame::default(), level, vector)?))
+    Ok(locate(&Frame::default(), level, vector)?)
+}
+
+fn place(words: &mut Words) -> Answer {
+    let located = located(words)?;
+    Ok(format!("{} {}", place_text(located.place), left_text(located.left)))
+}
+
+fn margin(words: &mut Words) -> Answer {
+    Ok(located(words)?.left.margin()?.to_string())
 }
 
 fn nearest(words: &mut Words) -> Answer {
@@ -125,8 +139,9 @@ fn corners(words: &mut Words) -> Answer {
 fn round(words: &mut Words) -> Answer {
     let point = words.point()?;
     words.end()?;
-    let hexagon = point.to_ijk()?;
-    Ok(format!("{} {} {}", hexagon.i, hexagon.j, hexagon.k))
+    let rounded = point.to_ijk()?;
+    let CoordIJK { i, j, k } = rounded.hexagon;
+    Ok(format!("{i} {j} {k} {}", left_text(rounded.left)))
 }
 
 fn centre(words: &mut Words) -> Answer {

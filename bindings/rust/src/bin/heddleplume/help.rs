@@ -15,8 +15,9 @@ const fn entry(name: &'static str, form: &'static str, example: &'static str, an
     Entry { name, form, example, answer }
 }
 
-static ENTRIES: [Entry; 24] = [
-    entry("place", "LEVEL X Y Z", "9 0.6 0 0.8", "face i j k: the place of a unit vector"),
+static ENTRIES: [Entry; 25] = [
+    entry("place", "LEVEL X Y Z", "9 0.6 0 0.8", "face i j k r1 r2: the place of a unit vector, and its leftovers"),
+    entry("margin", "LEVEL X Y Z", "9 0.6 0 0.8", "in hexagons, how far from its hexagon's border: 0 on it, 0.5 at the centre"),
     entry("nearest", "X Y Z", "0.6 0 0.8", "the nearest face, and the squared distance from its centre"),
     entry("border", "FACE LEVEL I J K [START LENGTH]", "0 1 1 0 0", "a hexagon's border: face x y corner|crossing of each point"),
     entry("pentagon", "FACE LEVEL I J K [START LENGTH]", "0 1 6 0 2", "a pentagon's border, in the same form"),
@@ -30,7 +31,7 @@ static ENTRIES: [Entry; 24] = [
     entry("sphere", "FACE LEVEL X Y", "3 10 63507 -13127.21307056452", "x y z: a plane point of a face as a unit vector"),
     entry("root", "X", "2", "the square root, the nearest double"),
     entry("corners", "FACE LEVEL I J K", "0 0 1 0 0", "the grid level of a cell's corners, then i j k of each of the six"),
-    entry("round", "X Y", "0.5 -0.5", "i j k: the hexagon of a plane point"),
+    entry("round", "X Y", "0.5 -0.5", "i j k r1 r2: the hexagon of a plane point, and its leftovers"),
     entry("centre", "I J K", "1 1 0", "x y: the centre of a hexagon"),
     entry("meet", "X Y X Y X Y X Y", "0 0 2 2 0 2 2 0", "x y: where two lines meet, each through two points"),
     entry("direction", "FACE FACE", "0 4", "where the second lies: 0 itself, 1, 2, 3 over that edge, 7 elsewhere"),
@@ -66,17 +67,23 @@ even grid level 0..16. p is the grid of the cells, s that of their corners, on w
 the corners of same and first lie. A border has all corners of the cell, or LENGTH of them from corner START on;
 each point has a line of its own. A corner on an edge has a name on both faces, that of a face has five.
 
-batch answers each line x,y,z by one line, in order. Each has four columns:
+The leftovers r1 r2, each at least 0 and below 1, are what the hexagon was chosen by. margin makes of them how
+near the line the vector was, in hexagons: from centre to centre of neighbours is 1, about 350 m at level 9. It
+is measured on the plane of the face, and sees no edge of a face. Switch a feed only where the new place has
+some margin, say 0.05: it then does not flicker along a border, as long as positions jitter by less.
+
+batch answers each line x,y,z by one line, in order. Each has four columns, without leftovers:
   9,0,3944,11640          face,i,j,k
   refused,6,BadNumber,    the word, the refusal's number and name, nothing
 A line that is not three numbers is refused too: 14, BadLine. A first line that holds no number is a header,
 and a header answers it. Standard error says how many lines were refused, and what to do about them.
 
 region write reads a place a line, as batch writes it or with blanks, in any order; repeats are dropped, and a
-first line without a digit is a header. If a line is refused, nothing is written: leave out the rows that a
-batch refused. FILE is written whole or not at all, as a new file beside it that then takes its name. Without
-FILE the list goes to standard output, where a full disk leaves half a list and not the old one. region check,
-has and list first check all of FILE. A place does not tell its level: it must be that of the list.
+first line without a digit is a header. An answer of place has leftovers and is no such line: make lines with
+batch. If a line is refused, nothing is written: leave out the rows that a batch refused. FILE is written whole
+or not at all, as a new file beside it that then takes its name. Without FILE the list goes to standard output,
+where a full disk leaves half a list and not the old one. region check, has and list first check all of FILE. A
+place does not tell its level: it must be that of the list.
 
 It ends with 0 if it answered (a batch: to the end, whatever was refused), with 1 if the question was refused
 or the input or output failed, with 2 if the words are no question.";

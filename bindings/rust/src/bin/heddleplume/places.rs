@@ -115,6 +115,7 @@ mod tests {
             assert_eq!(row(line), None, "{line:?}");
         }
         assert_eq!(row(b"refused,6,BadNumber,"), None);
+        assert_eq!(row(b"3 1 0 0 0.25 0.5"), None);
         assert_eq!(row(b"3,1,0,\xff"), None);
     }
 

@@ -3,9 +3,8 @@ use borrow.Author.Needs.{needs}
 use mathlib.Core.Path.{_∙_, sym, ap}
 use Rattle.reply.specs.Replies.{answer}
 use Rattle.reply.proofs.Entries.{answers, refuses}
-use Rattle.coordijk.specs.declared.CoordIJK.{CoordIJK}
-use Rattle.coordijk.specs.Coordinates.{coordValues}
-use Rattle.vec2d.specs.Rounding.{roundVerdict, nearestOf}
+use Rattle.vec2d.specs.declared.Found.{Found}
+use Rattle.vec2d.specs.Rounding.{roundVerdict, foundOf, foundValues}
 use Rattle.vec2d.proofs.Accepted.{accepted}
 use Rattle.vec2d.proofs.Vec2d.rounded.Statement.{statement}
 use Rattle.vec2d.proofs.Vec2d.rounded.Tie as tie
@@ -18,15 +17,15 @@ returns c =
     let n = c .before .before .before .before in
     let p = n .new .result in
     rw (n .new .ensures) at
-    (answers 3 (roundVerdict p) (coordValues (nearestOf p)) _ (sym (c .before .before .before .verdict .ensures) ∙ c .before .enum-told .given .1)
-    (ap (λ (r : CoordIJK). answer (coordValues r)) (c .nearest .ensures)))
+    (answers 5 (roundVerdict p) (foundValues (foundOf p)) _ (sym (c .before .before .before .verdict .ensures) ∙ c .before .enum-told .given .1)
+    (ap (λ (r : Found). answer (foundValues r)) (c .nearest .ensures)))
 
 returns-2 : tie.Need-returns-2
 returns-2 c =
     let n = c .before .before .before .before in
     let p = n .new .result in
     rw (n .new .ensures) at
-    (refuses 3 (roundVerdict p) (coordValues (nearestOf p)) _ (sym (c .before .before .before .verdict .ensures) ∙ c .before .verdict2 .given .1))
+    (refuses 5 (roundVerdict p) (foundValues (foundOf p)) _ (sym (c .before .before .before .verdict .ensures) ∙ c .before .verdict2 .given .1))
 
 pub rounded-spec : {M : Type 1} → statement M
 rounded-spec =

@@ -1,4 +1,4 @@
--- The leftovers of an accepted point are exact, at least 0 and below 1, and 2·r1 - 1 is the same rounded once or twice. Assumes nothing.
+-- The leftovers of an accepted point are exact, at least 0 and below 1, never minus zero, and 2·r1 - 1 is the same rounded once or twice. Assumes nothing.
 use mathlib.Core.Path.{_≡_, refl}
 use mathlib.Core.Bool.{true, false}
 use Prim.Native.Nat.{_-_, _/_, _%_, _^_}
@@ -43,14 +43,15 @@ exact v e =
       left2 = left-value (x2Of v) (mul-fits binary64 _ _) (wide-second v p);
     }
 
--- Both leftovers of an accepted point are at least 0 and below 1.
+-- Both leftovers of an accepted point are at least 0 and below 1, and a zero among them is plus zero.
 pub in-unit : (v : Vec2d) → roundVerdict v ≡ Fine → InUnit (quantizedOf v .r1) × InUnit (quantizedOf v .r2)
 unfolding quantizedOf
 in-unit v e =
     let p = accepted v e in
     (left-range (x1Of v) (add-fits binary64 _ _) (wide-first v p), left-range (x2Of v) (mul-fits binary64 _ _) (wide-second v p))
 
-fitting : (x : Float) → T (fits binary64 (leftOf x))
+-- A leftover is a value of the format.
+pub fitting : (x : Float) → T (fits binary64 (leftOf x))
 fitting x = sub-fits binary64 x _
 
 minus-one : finite (neg one) ≡ true
