@@ -81,7 +81,7 @@ fn place_one() {
             for &v in &input {
                 let (mut out, mut left) = ([0u32; 4], [0f64; 2]);
                 black_box(bare::place(&FRAME, v, 9, &mut out, &mut left));
-                black_box((out, left));
+                black_box((&out, &left));
             }
         },
         || {
@@ -106,7 +106,7 @@ fn round() {
             for &p in &points {
                 let (mut out, mut left) = ([0u32; 3], [0f64; 2]);
                 black_box(bare::round(p, &mut out, &mut left));
-                black_box((out, left));
+                black_box((&out, &left));
             }
         },
         || {
