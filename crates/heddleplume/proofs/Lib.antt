@@ -1,3 +1,4 @@
--- Laws of the C face: the default frame passes, and the corners of boundaries have first names.
+-- Laws of the C face: the default frame passes, the corners of boundaries have first names, and places have margins.
 pub mod Passing
 pub mod Named
+pub mod Margins

@@ -13,7 +13,7 @@ pub enum Margined {
     Refused(Refusal),
 }
 
-// Lengths are counted in 2^51sts of the way from one centre to the next: twice as many and once more are still doubles.
+// Lengths are counted in 2^51sts of the way from one centre to the next. The longest way has at most three times as many, which a double holds exactly.
 pub const UNIT: u64 = 2251799813685248;
 
 fn is_leftover(r: f64) -> bool
@@ -22,7 +22,7 @@ fn is_leftover(r: f64) -> bool
     (0.0 <= r) & (r < 1.0)
 }
 
-// How many whole parts a leftover has.
+// How many whole 2^51sts a leftover has.
 fn parts(r: f64) -> u64
     requires { ⌜ isLeftover r ≡ true ⌝ }
     ensures counts { λ n. ⌜ n ≡ partsOf r ⌝ }
