@@ -5,11 +5,12 @@ use Prim.Native.Nat.{ℕ, _+_, _-_, _*_, _/_, _^_, _≤_, _<_}
 use native.Mathlib.Nat.{le-trans, mul-le-mul-left, mul-le-mul-right, lt-of-mul-lt-mul-right, div-mul-le-self, lt-div-mul-add}
 use native.Mathlib.Omega.{arith}
 use lib.Dec.{lit<}
+use Rattle.double.specs.Double.{sizeOf}
 use Rattle.vec2d.specs.declared.Leftovers.{Leftovers}
 use Rattle.vec2d.specs.declared.Steps.{Steps}
 use Rattle.vec2d.specs.Rounding.{stepsOf}
 use Rattle.vec2d.proofs.Branches.{Within, chosen-within}
-use Rattle.margin.specs.Margins.{isLeftover, partsOf, stepOf, reachIn, reachOf}
+use Rattle.margin.specs.Margins.{partsOf, stepOf, reachIn, reachOf}
 use Rattle.margin.proofs.Neighbours.{within-reach, reach-within}
 use Rattle.margin.proofs.Scaling.{Fraction, parts-told}
 
@@ -71,15 +72,15 @@ multiplied k p q r s t w = record {
 }
 
 -- Leftovers whose exact values are a / d and b / d.
-module _ (l : Leftovers) (d a b : ℕ) (f : Fraction (l .r1) a d) (g : Fraction (l .r2) b d) (passes : isLeftover (l .r1) ≡ true) (passes₂ : isLeftover (l .r2) ≡ true) where
+module _ (l : Leftovers) (d a b : ℕ) (f : Fraction (sizeOf (l .r1)) a d) (g : Fraction (sizeOf (l .r2)) b d) where
   abbrev s : Steps
-  s = stepsOf (l .r1) (l .r2)
+  s = stepsOf (sizeOf (l .r1)) (sizeOf (l .r2))
 
   abbrev m : ℕ
-  m = partsOf (l .r1)
+  m = partsOf (sizeOf (l .r1))
 
   abbrev n : ℕ
-  n = partsOf (l .r2)
+  n = partsOf (sizeOf (l .r2))
 
   -- the reach that the exact leftovers have, in d-ths
   abbrev exact : ℕ
@@ -89,10 +90,10 @@ module _ (l : Leftovers) (d a b : ℕ) (f : Fraction (l .r1) a d) (g : Fraction 
   some = omega (arith, f .low)
 
   told : (d * m ≤ 2 ^ 51 * a) × (2 ^ 51 * a < d * m + d)
-  told = let t = parts-told (l .r1) a d f passes in (omega (arith, t .0), omega (arith, t .1))
+  told = let t = parts-told (sizeOf (l .r1)) a d f in (omega (arith, t .0), omega (arith, t .1))
 
   told₂ : (d * n ≤ 2 ^ 51 * b) × (2 ^ 51 * b < d * n + d)
-  told₂ = let t = parts-told (l .r2) b d g passes₂ in (omega (arith, t .0), omega (arith, t .1))
+  told₂ = let t = parts-told (sizeOf (l .r2)) b d g in (omega (arith, t .0), omega (arith, t .1))
 
   -- steps of 2^51 in d-ths are steps of d in 2^51sts
   across : (up : Bool) → d * stepOf (2 ^ 51) up ≡ 2 ^ 51 * stepOf d up
@@ -123,7 +124,7 @@ module _ (l : Leftovers) (d a b : ℕ) (f : Fraction (l .r1) a d) (g : Fraction 
   -- By the tests of the branches the exact reach is at most d, but for 2^-40 of it.
   exact-low : 2 ^ 40 * exact ≤ 2 ^ 40 * d + d
   exact-low =
-      let w = chosen-within (l .r1) (l .r2) d a b (f .low) (g .low) (f .value) (g .value) in
+      let w = chosen-within (sizeOf (l .r1)) (sizeOf (l .r2)) d a b (f .low) (g .low) (f .value) (g .value) in
       let v = divided (2 ^ 40) a (stepOf d (s .i)) b (stepOf d (s .j)) (2 ^ 40 * d + d) (lit< tt) (rw (stepped (2 ^ 40) d (s .i), stepped (2 ^ 40) d (s .j)) w) in
       omega (arith, mul-le-mul-left (2 ^ 40) (reach-within d a b s _ v), div-mul-le-self (2 ^ 40 * d + d) (2 ^ 40))
 

@@ -1,10 +1,9 @@
 -- A margin is exactly the whole number of 2^52nds that its definition names: nothing is rounded. Assumes nothing.
 use mathlib.Core.Path.{_≡_, refl, sym}
-use mathlib.Core.Bool.{Bool, true, false, not, _&&_}
+use mathlib.Core.Bool.{Bool, true, false}
 use Prim.Native.Nat.{ℕ, suc, _+_, _-_, _*_, _^_, _≤_, _<_}
 use native.Mathlib.Nat.{mul-assoc, lt-of-lt-of-le}
 use native.Mathlib.Omega.{arith}
-use borrow.Author.Tests.{not-false}
 use lib.IntN.{ℤ, pos, negsuc, natAbs, _-ℤ_}
 use lib.Dec.{lit<, lit≤}
 use lib.Pow.{shl-lt}
@@ -13,14 +12,13 @@ use lib.Ieee.Fits.{down-pos}
 use lib.Ieee.Exact.{HasValue, round-exact}
 use lib.Ieee.Back.{round-whole}
 use lib.Ieee.Scale.{round-same}
-use Rattle.reply.specs.declared.Refusal.the-variants.{BadRange}
 use Rattle.reply.specs.declared.Verdict.the-variants.{Fine}
-use Rattle.reply.proofs.Entries.{passed, both}
 use Rattle.coordijk.proofs.Differences.{View, view, diff-pos, diff-neg}
+use Rattle.double.specs.Double.{sizeOf}
 use Rattle.vec2d.specs.declared.Leftovers.{Leftovers}
 use Rattle.vec2d.specs.Rounding.{stepsOf}
-use Rattle.margin.specs.Margins.{isLeftover, twoUnits, partsOf, reachOf, marginIn, marginOf, marginVerdict}
-use Rattle.margin.proofs.Counting.{parts-low, reach-low}
+use Rattle.margin.specs.Margins.{twoUnits, partsOf, reachOf, marginIn, marginOf, marginVerdict}
+use Rattle.margin.proofs.Counting.{leftover-upto, parts-low, taken, reach-fits}
 
 part : (s : Bool) (n : ℕ) → n < 2 ^ 53 → HasValue (round binary64 s n (2 ^ 52)) s n (2 ^ 52)
 part s n h =
@@ -53,8 +51,9 @@ counted (negsuc n) h = quotient (round binary64 true (suc n) 1) true (suc n) (ro
 pub margin-counts : (l : Leftovers) → marginVerdict l ≡ Fine → Counts (marginOf l) (marginIn l)
 unfolding marginOf
 margin-counts l e =
-    let p = both (isLeftover (l .r1)) (isLeftover (l .r2)) (not-false _ (passed (not (isLeftover (l .r1) && isLeftover (l .r2))) BadRange Fine e .0)) in
-    let low = reach-low (partsOf (l .r1)) (partsOf (l .r2)) (stepsOf (l .r1) (l .r2)) (parts-low (l .r1) (p .0)) (parts-low (l .r2) (p .1)) in
+    let p = taken l e in
+    let low = reach-fits (partsOf (sizeOf (l .r1))) (partsOf (sizeOf (l .r2))) (stepsOf (sizeOf (l .r1)) (sizeOf (l .r2)))
+    (parts-low (sizeOf (l .r1)) (leftover-upto (l .r1) (p .0))) (parts-low (sizeOf (l .r2)) (leftover-upto (l .r2) (p .1))) in
     counted (marginIn l) (small (reachOf l) low)
   where
     small : (r : ℕ) → r ≤ 3 * 2 ^ 51 → natAbs (pos (2 ^ 51) -ℤ pos r) < 2 ^ 53

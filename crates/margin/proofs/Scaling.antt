@@ -1,5 +1,5 @@
 -- A leftover times 2^51 is exact, so that its parts are its whole 2^51sts: none is lost to rounding, and less than one is left. Assumes nothing.
-use mathlib.Core.Path.{_≡_, sym, ap, _∙_}
+use mathlib.Core.Path.{_≡_, refl, sym, ap, _∙_}
 use mathlib.Core.Bool.{true, false, true≢false}
 use Prim.Native.Nat.{ℕ, suc, _+_, _-_, _*_, _/_, _^_, _≤_, _<_}
 use native.Mathlib.Nat.{mul-assoc, mul-one, lt-of-lt-of-le, le-of-mul-le-mul-right, lt-of-mul-lt-mul-right, mul-le-mul-right, mul-lt-mul-of-pos-right, le-antisymm, div-mul-le-self, lt-div-mul-add}
@@ -12,9 +12,10 @@ use lib.Ieee.Digits.{back}
 use lib.Ieee.Fits.{down-pos}
 use lib.Ieee.Exact.{HasValue, round-exact}
 use lib.Ieee.Positive.{num, den}
+use Rattle.double.specs.Sizes.{Upto}
 use Rattle.double.proofs.Left.{pow-le-back, fits-digits, whole-value}
 use Rattle.double.proofs.Nonnegative.{upto-le}
-use Rattle.margin.specs.Margins.{isLeftover, unit, partsOf}
+use Rattle.margin.specs.Margins.{unit, partsOf}
 use Rattle.margin.proofs.Counting.{parts-upto}
 
 -- ---- the product
@@ -65,14 +66,15 @@ floored (fin s m x) M D a d p o v e =
         (le-of-mul-le-mul-right {k = E} (omega (arith, mul-le-mul-right d l)) E-pos, lt-of-mul-lt-mul-right E under)
 
 -- The parts of a leftover a / d are the whole part of 2^51 · a / d.
-pub parts-told : (r : Float) (a d : ℕ) → Fraction r a d → isLeftover r ≡ true → let q = partsOf r in (q * d ≤ 2 ^ 51 * a) × (2 ^ 51 * a < q * d + d)
+pub parts-told : (r : Float) (a d : ℕ) → Fraction r a d → let q = partsOf r in (q * d ≤ 2 ^ 51 * a) × (2 ^ 51 * a < q * d + d)
 unfolding partsOf
-parts-told nan a d f h = absurd (f .value)
-parts-told (inf s) a d f h = absurd (f .value)
-parts-told (fin true m e) a d f h = absurd (true≢false (f .value .0))
-parts-told (fin false m e) a d f h =
+parts-told nan a d f = absurd (f .value)
+parts-told (inf s) a d f = absurd (f .value)
+parts-told (fin true m e) a d f = absurd (true≢false (f .value .0))
+parts-told (fin false m e) a d f =
     let y = mul binary64 (fin false m e) unit in
     let o : 0 < d = omega (arith, f .low) in
     let below-one : m * up e < down e = lt-of-mul-lt-mul-right d (omega (arith, f .value .1, mul-lt-mul-of-pos-right (f .low) (down-pos e))) in
+    let upto : Upto 1 (fin false m e) = record { under = record { number = refl; size = omega (arith, below-one) }; plus = refl } in
     let v : HasValue y false (m * up e * 2 ^ 51) (down e) = rw product (scaled m e (f .fine) below-one) in
-    rw (whole-value y (upto-le (2 ^ 51) (2 ^ 53) y (lit≤ tt) (parts-upto (fin false m e) h))) (floored y (m * up e) (down e) a d (down-pos e) o v (f .value .1))
+    rw (whole-value y (upto-le (2 ^ 51) (2 ^ 53) y (lit≤ tt) (parts-upto (fin false m e) upto))) (floored y (m * up e) (down e) a d (down-pos e) o v (f .value .1))

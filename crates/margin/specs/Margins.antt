@@ -29,7 +29,7 @@ twoUnits = ofBits binary64 0x4330_0000_0000_0000
 
 -- a leftover in whole 2^51sts
 unfoldable pub partsOf : Float → ℕ
-partsOf r = wholeOf (mul binary64 (sizeOf r) unit)
+partsOf r = wholeOf (mul binary64 r unit)
 
 -- how far two numbers are apart: one of the two differences is 0
 abbrev pub gapOf : ℕ → ℕ → ℕ
@@ -48,8 +48,12 @@ reachIn unit m n s =
     let j = stepOf unit (s .j) in
     max (gapOf (2 * m + j) (n + 2 * i)) (max (gapOf (2 * n + i) (m + 2 * j)) (gapOf (m + n) (i + j)))
 
+-- of two leftovers, where the sign of a zero does not count
 abbrev pub reachOf : Leftovers → ℕ
-reachOf l = reachIn (2 ^ 51) (partsOf (l .r1)) (partsOf (l .r2)) (stepsOf (l .r1) (l .r2))
+reachOf l =
+    let r1 = sizeOf (l .r1) in
+    let r2 = sizeOf (l .r2) in
+    reachIn (2 ^ 51) (partsOf r1) (partsOf r2) (stepsOf r1 r2)
 
 -- the margin in 2^52nds, and as a double
 abbrev pub marginIn : Leftovers → ℤ

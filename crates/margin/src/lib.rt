@@ -1,7 +1,7 @@
 // How far a point was from the nearest border of its hexagon, by the leftovers of its rounding alone.
 ghost use mathlib.Core.Path.{_≡_};
-ghost use mathlib.Core.Bool.{true};
 ghost use Prim.Native.Nat.{_*_, _≤_, _^_, max};
+ghost use Rattle.double.specs.Sizes.{Upto};
 ghost use Rattle.margin.specs.Margins.{isLeftover, partsOf, gapOf, stepOf, reachIn, saidMargin, marginReply};
 use reply::Refusal;
 use vec2d::Leftovers;
@@ -24,11 +24,11 @@ fn is_leftover(r: f64) -> bool
 
 // How many whole 2^51sts a leftover has.
 fn parts(r: f64) -> u64
-    requires { ⌜ isLeftover r ≡ true ⌝ }
+    requires { ⌜ Upto 1 r ⌝ }
     ensures counts { λ n. ⌜ n ≡ partsOf r ⌝ }
     ensures bounded { λ n. ⌜ n ≤ 2 ^ 51 ⌝ }
 {
-    std::num::truncating_f64_to_u64(double::magnitude(r) * 2251799813685248.0)
+    std::num::truncating_f64_to_u64(r * 2251799813685248.0)
 }
 
 fn gap(a: u64, b: u64) -> u64
@@ -69,9 +69,9 @@ fn reach(m: u64, n: u64, s: Steps) -> u64
 pub fn margin(left: Leftovers) -> Margined
     ensures { λ r. ⌜ saidMargin r ≡ marginReply left ⌝ }
 {
-    let r1 = left.r1;
-    let r2 = left.r2;
-    if is_leftover(r1) & is_leftover(r2) {
+    if is_leftover(left.r1) & is_leftover(left.r2) {
+        let r1 = double::magnitude(left.r1);
+        let r2 = double::magnitude(left.r2);
         let far = reach(parts(r1), parts(r2), vec2d::chosen(r1, r2));
         return Margined::Done((2251799813685248.0 - (far as f64)) / 4503599627370496.0);
     }

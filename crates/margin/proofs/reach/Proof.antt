@@ -3,7 +3,7 @@ use borrow.Author.Needs.{needs}
 use mathlib.Core.Path.{_≡_}
 use Prim.Native.Nat.{_^_}
 use Rattle.margin.specs.Margins.{reachIn}
-use Rattle.margin.proofs.Counting.{reach-low}
+use Rattle.margin.proofs.Counting.{reach-fits}
 use Rattle.margin.proofs.reach.Statement.{statement}
 use Rattle.margin.proofs.reach.Tie as tie
 
@@ -18,7 +18,7 @@ returns c =
     let i = j .before in
     let start = i .before in
     let is : c .most2 .result ≡ reachIn (2 ^ 51) (start .args .m) (start .args .n) (start .args .s) = rw (c .most2 .ensures, l .most .ensures, g3 .gap3 .ensures, g2 .gap2 .ensures, g1 .gap .ensures, j .step2 .ensures .0, i .step .ensures .0) in
-    (is, rw is (reach-low (start .args .m) (start .args .n) (start .args .s) (start .pre .0) (start .pre .1)))
+    (is, rw is (reach-fits (start .args .m) (start .args .n) (start .args .s) (start .pre .0) (start .pre .1)))
 
 pub reach-spec : {M : Type 1} → statement M
 reach-spec =
