@@ -1,46 +1,19 @@
 //! What the rounding leaves over, of plane points and of unit vectors, and the margin: how near the border of its hexagon a point was.
-use heddleplume::{CellLevel, CoordIJK, Frame, Leftovers, Located, Refusal, Rounded, Vec2d, locate, locate_all, plane_point};
+mod points;
+
+use heddleplume::{CellLevel, CoordIJK, Frame, Leftovers, Located, Refusal, Vec2d, locate, locate_all, plane_point};
+use points::{LIMIT, NEAR, RSIN60, around, before_folds, border, centre, far_hexagons, hexagons, on_the_lines, rounded, spiral, vectors};
 
 const SIN60: f64 = 0.8660254037844386;
-const RSIN60: f64 = 1.1547005383792515;
-const GOLDEN_ANGLE: f64 = 2.399963229728653;
 
-/// Below this size no part of a point is too far.
-const LIMIT: f64 = 33554432.0;
-
-/// Within this of the origin a plane point's own parts, and what is worked out of them here, are good to less than CLOSE.
-const NEAR: f64 = 64.0;
+/// What is worked out here of plane points near the origin is good to less than this.
 const CLOSE: f64 = 1e-12;
 
 /// No margin is below it: -2^-40.
 const LEAST: f64 = -1.0 / 1099511627776.0;
 
-/// The steps from a hexagon to its neighbours, in their order round it.
-const STEPS: [[u32; 3]; 6] = [[1, 0, 0], [1, 1, 0], [0, 1, 0], [0, 1, 1], [0, 0, 1], [1, 0, 1]];
-
-/// So many points of a disc, in a spiral that visits all sides of it.
-fn spiral(count: u32, radius: f64) -> impl Iterator<Item = Vec2d> {
-    (0..count).map(move |n| {
-        let (out, angle) = (radius * (f64::from(n) / f64::from(count)).sqrt(), GOLDEN_ANGLE * f64::from(n));
-        Vec2d::new(out * angle.cos(), out * angle.sin())
-    })
-}
-
-/// So many unit vectors, round the Earth from pole to pole.
-fn vectors(count: u32) -> impl Iterator<Item = [f64; 3]> {
-    (0..count).map(move |n| {
-        let (z, angle) = (2.0 * f64::from(n) / f64::from(count) - 1.0, GOLDEN_ANGLE * f64::from(n));
-        let across = (1.0 - z * z).sqrt();
-        [across * angle.cos(), across * angle.sin(), z]
-    })
-}
-
 fn bits(left: Leftovers) -> [u64; 2] {
     [left.r1.to_bits(), left.r2.to_bits()]
-}
-
-fn rounded(point: Vec2d) -> Rounded {
-    point.to_ijk().expect("it is finite and near enough")
 }
 
 fn margin(point: Vec2d) -> f64 {
@@ -49,36 +22,7 @@ fn margin(point: Vec2d) -> f64 {
 
 /// Document 01's rule: what is left of x1 and of x2.
 fn by_the_rule(point: Vec2d) -> Leftovers {
-    let x2 = point.y.abs() * RSIN60;
-    let x1 = point.x.abs() + x2 / 2.0;
-    Leftovers { r1: x1 - x1.floor(), r2: x2 - x2.floor() }
-}
-
-fn centre(hexagon: CoordIJK) -> Vec2d {
-    hexagon.centre().expect("it is reduced")
-}
-
-/// The centres of a hexagon's neighbours.
-fn around(hexagon: CoordIJK) -> [Vec2d; 6] {
-    STEPS.map(|[i, j, k]| centre(CoordIJK::new(hexagon.i + i, hexagon.j + j, hexagon.k + k).reduce()))
-}
-
-/// The hexagons up to so many steps from the origin, and a few more.
-fn hexagons(most: u32) -> impl Iterator<Item = CoordIJK> {
-    (0..=most).flat_map(move |a| (0..=most).flat_map(move |b| [[a, b, 0], [0, a, b], [b, 0, a]])).map(|[i, j, k]| CoordIJK::new(i, j, k))
-}
-
-/// Points of a hexagon's border: on each side, corners and midpoint among them.
-fn border(hexagon: CoordIJK) -> impl Iterator<Item = Vec2d> {
-    let (at, around) = (centre(hexagon), around(hexagon));
-    let corner = move |n: usize| {
-        let (one, next) = (around[n % 6], around[(n + 1) % 6]);
-        Vec2d::new((at.x + one.x + next.x) / 3.0, (at.y + one.y + next.y) / 3.0)
-    };
-    (0..6).flat_map(move |side| {
-        let (from, to) = (corner(side), corner(side + 1));
-        (0..=8).map(move |n| f64::from(n) / 8.0).map(move |t| Vec2d::new(from.x + t * (to.x - from.x), from.y + t * (to.y - from.y)))
-    })
+    before_folds(point).map(|number| number - number.floor()).into()
 }
 
 #[test]
@@ -216,23 +160,15 @@ fn margin_stays_within_its_bounds() {
     for point in hexagons(25).flat_map(border) {
         assert!(within_bounds(margin(point)) && margin(point) < CLOSE, "{point:?}");
     }
-    // Far out, where a double has few digits left behind the point.
-    let far = hexagons(12).map(|near| CoordIJK::new(near.i + 20_000_000, near.j + 5_000_000, near.k).reduce());
-    for point in far.flat_map(border) {
+    for point in far_hexagons(12).flat_map(border) {
         assert!(within_bounds(margin(point)), "{point:?}");
     }
 }
 
-/// Leftovers on the lines by which hexagons are told apart, at the corners where three of them meet, and one double beside.
 #[test]
 fn margin_on_the_lines_of_the_branches() {
-    let lines: [fn(f64) -> f64; 5] = [|r| (1.0 + r) / 2.0, |r| 1.0 - r, |r| 2.0 * r, |r| 2.0 * r - 1.0, |r| r / 2.0];
-    let beside = |number: f64| [number.next_down(), number, number.next_up()];
-    let corners = [1.0 / 3.0, 0.5, 2.0 / 3.0].into_iter().flat_map(beside);
-    for r1 in corners.chain((0..10_000).map(|n| f64::from(n) / 10_000.0)) {
-        for r2 in lines.iter().flat_map(|line| beside(line(r1))).filter(|r2| (0.0..1.0).contains(r2)) {
-            let margin = Leftovers { r1, r2 }.margin().expect("both are in range");
-            assert!(within_bounds(margin), "{r1} {r2}: {margin}");
-        }
+    for left in on_the_lines(10_000) {
+        let margin = left.margin().expect("both are in range");
+        assert!(within_bounds(margin), "{left:?}: {margin}");
     }
 }

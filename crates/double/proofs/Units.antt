@@ -40,22 +40,23 @@ L = 2 ^ 1074
 L-pos : 0 < L
 L-pos = pow-pos 1074
 
--- ---- every double is a whole number of units
+-- ---- every double is a whole number of units: its digits times a power of two
 
-whole-units : (m : ℕ) (e : ℤ) → down e ≤ L → (n : ℕ) × (m * up e * L ≡ n * down e)
-whole-units m (pos k) h = (m * 2 ^ k * L, sym (mul-one (m * 2 ^ k * L)))
-whole-units m (negsuc k) h =
-    let fine : suc k ≤ 1074 = pow-le-back (suc k) 1074 h in
+power-of : (e : ℤ) → down e ≤ L → (j : ℕ) × (up e * L ≡ 2 ^ j * down e)
+power-of (pos k) h = (k + 1074, sym (pow-add 2 k 1074) ∙ sym (mul-one (2 ^ (k + 1074))))
+power-of (negsuc k) h =
     let j = 1074 - suc k in
-    let p : L ≡ 2 ^ j * 2 ^ suc k = ap (λ (n : ℕ). 2 ^ n) (sym (back 1074 (suc k) fine)) ∙ pow-add 2 j (suc k) in
-    (m * 1 * 2 ^ j, ap (λ (n : ℕ). m * 1 * n) p ∙ sym (mul-assoc (m * 1) (2 ^ j) (2 ^ suc k)))
+    (j, one-mul L ∙ ap (λ (n : ℕ). 2 ^ n) (sym (back 1074 (suc k) (pow-le-back (suc k) 1074 h))) ∙ pow-add 2 j (suc k))
+
+whole-units : (m : ℕ) (e : ℤ) → down e ≤ L → (j : ℕ) × (m * up e * L ≡ m * 2 ^ j * down e)
+whole-units m e h = let p = power-of e h in (p .0, mul-assoc m (up e) L ∙ ap (λ (n : ℕ). m * n) (p .1) ∙ sym (mul-assoc m (2 ^ p .0) (down e)))
 
 pub units-equal : (x : Float) → T (fits binary64 x) → finite x ≡ true → Equals x (unitsOf x) L
 units-equal nan f h = absurd (false≢true h)
 units-equal (inf s) f h = absurd (false≢true h)
 units-equal (fin s m e) f h =
     let w = whole-units m e (fits-digits s m e f .1) in
-    let q : m * up e * L / down e ≡ w .0 = ap (λ (n : ℕ). n / down e) (w .1) ∙ mul-div-cancel (w .0) (down-pos e) in
+    let q : m * up e * L / down e ≡ m * 2 ^ w .0 = ap (λ (n : ℕ). n / down e) (w .1) ∙ mul-div-cancel (m * 2 ^ w .0) (down-pos e) in
     w .1 ∙ ap (λ (n : ℕ). n * down e) (sym q)
 
 -- whatever fraction of units a double is, it is these
@@ -63,6 +64,21 @@ pub units-of : (x : Float) (n : ℕ) → Equals x n L → unitsOf x ≡ n
 units-of nan n v = absurd v
 units-of (inf s) n v = absurd v
 units-of (fin s m e) n v = ap (λ (k : ℕ). k / down e) v ∙ mul-div-cancel n (down-pos e)
+
+-- 53 digits, and a power of two
+pub record OnGrid (n : ℕ) : Type 0 where
+  pub digits : ℕ
+  pub power : ℕ
+  pub few : digits < 2 ^ 53
+  pub is : n ≡ digits * 2 ^ power
+
+pub on-grid : (x : Float) → T (fits binary64 x) → finite x ≡ true → OnGrid (unitsOf x)
+on-grid nan f h = absurd (false≢true h)
+on-grid (inf s) f h = absurd (false≢true h)
+on-grid (fin s m e) f h =
+    let d = fits-digits s m e f in
+    let w = whole-units m e (d .1) in
+    record { digits = m; power = w .0; few = d .0; is = units-of (fin s m e) (m * 2 ^ w .0) (w .1) }
 
 -- ---- a rounded number
 
@@ -79,6 +95,10 @@ units-finite s q k = from (ltb (q * 2 ^ k) (overflow binary64)) (ltb→lt (q * 2
 
 pub round-finite : (s : Bool) (a c : ℕ) → finite (round binary64 s a c) ≡ true → grid binary64 a c < overflow binary64
 round-finite s a c t = units-finite s _ _ (ap finite (sym (round-is binary64 s a c)) ∙ t)
+
+-- what a rounded number is, where it is a number
+pub value-of : (y : Float) (a c : ℕ) → y ≡ round binary64 false a c → finite y ≡ true → HasValue y false (grid binary64 a c) L
+value-of y a c e h = subst (λ (z : Float). HasValue z false (grid binary64 a c) L) (sym e) (round-sized false a c (round-finite false a c (ap finite (sym e) ∙ h)))
 
 pub equals-of : (x : Float) (s : Bool) (a c : ℕ) → HasValue x s a c → Equals x a c
 equals-of nan s a c h = h

@@ -11,14 +11,13 @@ use lib.Ieee.Digits.{Equals}
 use lib.Ieee.Fits.{down-pos, add-fits}
 use lib.Ieee.Exact.{HasValue}
 use lib.Ieee.Order.{le-of-values}
-use lib.Ieee.Scale.{grid}
 use Rattle.reply.specs.declared.Verdict.the-variants.{Fine}
 use Rattle.double.specs.Double.{finite, quarter, mulAdd, sphereLow, sphereHigh}
 use Rattle.double.specs.Sizes.{unitsOf, Under}
 use Rattle.double.proofs.Finite.{add-finite}
 use Rattle.double.proofs.Near.{Rel}
 use Rattle.double.proofs.Tests.{fails}
-use Rattle.double.proofs.Units.{L, units-equal, units-of, round-sized, round-finite, equals-of, sign, timesU, mul-round, times-near, plusU, add-round, plus-near, overU, div-round, over-near}
+use Rattle.double.proofs.Units.{L, units-equal, units-of, round-sized, value-of, equals-of, sign, timesU, mul-round, times-near, plusU, add-round, plus-near, overU, div-round, over-near}
 use Rattle.vec3d.specs.declared.Vec3d.{Vec3d}
 use Rattle.vec3d.specs.Vectors.{dotOf, offSphere, vectorVerdict}
 use Rattle.vec3d.specs.Sizes.{PartsUnder}
@@ -37,10 +36,6 @@ pub record Held (v : Vec3d) : Type 0 where
   pub z : T (fits binary64 (v .z))
 
 -- ---- a squared length, in units
-
--- what a rounded number is, where it is a number
-value-of : (y : Float) (a c : ℕ) → y ≡ round binary64 false a c → finite y ≡ true → HasValue y false (grid binary64 a c) L
-value-of y a c e h = subst (λ (z : Float). HasValue z false (grid binary64 a c) L) (sym e) (round-sized false a c (round-finite false a c (ap finite (sym e) ∙ h)))
 
 square-value : (x : Float) (X : ℕ) → Equals x X L → finite (mul binary64 x x) ≡ true → HasValue (mul binary64 x x) false (timesU X X) L
 square-value x X v h = value-of (mul binary64 x x) (X * X) (L * L) (mul-round x x X X v v ∙ ap (λ (s : Bool). round binary64 s (X * X) (L * L)) (alike (sign x))) h

@@ -1,4 +1,4 @@
--- What locating says of the place is what document 01 says, and the leftovers are those of its plane point's rounding. Assumes nothing.
+-- What locating says of the place is what document 01 says, and leftovers and hexagon are those of its plane point's rounding, the nearest. Assumes nothing.
 use mathlib.Core.Path.{_≡_, refl}
 use mathlib.Core.List.{List}
 use Prim.Native.Nat.{ℕ}
@@ -13,10 +13,12 @@ use Rattle.reply.proofs.Entries.{passed}
 use Rattle.level.specs.Levels.{badCell}
 use Rattle.double.proofs.Left.{InUnit}
 use Rattle.vec2d.specs.Rounding.{roundVerdict, roundReply}
+use Rattle.vec2d.specs.Nearest.{Trusted}
 use Rattle.vec2d.proofs.Exact.{in-unit}
+use Rattle.vec2d.proofs.Trusting.{trusted}
 use Rattle.vec3d.specs.declared.Vec3d.{Vec3d}
 use Rattle.vec3d.specs.Frame.{badFrame}
-use Rattle.faceijk.specs.Places.{placeValues}
+use Rattle.faceijk.specs.Places.{coordOf, placeValues}
 use Rattle.locate.specs.Locating.{nearPoint, placeOf, spotOf, spotValues, locateVerdict, locateReply, placeReply}
 use Rattle.locate.proofs.Giving.{rounds}
 
@@ -42,3 +44,8 @@ passed-on s l p e = rw (e, answered-rounds s l p e)
 -- So both are at least 0 and below 1, and a zero among them is plus zero.
 pub place-in-unit : (s : List Float) (l : ℕ) (p : Vec3d) → locateVerdict s l p ≡ Fine → let r = spotOf s l p .left in InUnit (r .r1) × InUnit (r .r2)
 place-in-unit s l p e = in-unit (nearPoint s l p) (answered-rounds s l p e)
+
+-- And the place's hexagon, unfolded, is the centre nearest to the plane point's x1 and x2.
+pub place-trusted : (s : List Float) (l : ℕ) (p : Vec3d) → locateVerdict s l p ≡ Fine → let t = spotOf s l p in Trusted (nearPoint s l p) (record { hexagon = coordOf (t .place); left = t .left })
+unfolding placeOf
+place-trusted s l p e = trusted (nearPoint s l p) (answered-rounds s l p e)

@@ -5,65 +5,17 @@ use Prim.Native.Nat.{ℕ, zero, suc, _+_, _-_, _*_, _≤_, _<_, max}
 use native.Mathlib.Nat.{mul-le-mul-left, lt-irrefl}
 use native.Mathlib.Decide.{decLe}
 use native.Mathlib.Omega.{arith}
-use lib.IntN.{ℤ, pos, negsuc, negℤ, negℤ-negℤ, _+ℤ_, _-ℤ_}
+use lib.IntN.{pos, _+ℤ_}
 use lib.Dec.{le→leb, lit<}
 use lib.ListN.{getD}
 use lib.Signed.{_≤ℤ_, leZ-yes}
-use Rattle.coordijk.proofs.Differences.{View, view, diff-pos, diff-neg}
 use Rattle.vec2d.specs.declared.Steps.{Steps}
+use Rattle.vec2d.specs.Nearest.{apart}
 use Rattle.vec2d.proofs.Branches.{Within}
+use Rattle.vec2d.proofs.Measures.{Is, measured}
 use Rattle.margin.proofs.Counting.{longest}
-use Rattle.margin.specs.Centres.{measure, apart, fromNeighbours}
+use Rattle.margin.specs.Centres.{fromNeighbours}
 use Rattle.margin.specs.Margins.{gapOf, stepOf, reachIn}
-
--- ---- a measure is a whole number from 0 up
-
--- one of two numbers is the other and some more
-data Sides (x y : ℕ) : Type 0 where
-  first : (k : ℕ) → x ≡ y + k → Sides x y
-  last : (k : ℕ) → y ≡ x + k → Sides x y
-
-sides : (x y : ℕ) → Sides x y
-sides x y = go (view x y)
-  where
-    go : View x y → Sides x y
-    go (View.up k c) = first k c
-    go (View.down k c) = last (suc k) c
-
-cross : (x y : ℕ) → 2 * (x * y) ≤ x * x + y * y
-cross x y = go (sides x y)
-  where
-    go : Sides x y → 2 * (x * y) ≤ x * x + y * y
-    go (first k h) = rw h (omega arith)
-    go (last k h) = rw h (omega arith)
-
--- c is the measure of the point (m, n) from the centre (i, j), without a difference
-record Is (c m n i j : ℕ) : Type 0 where
-  sum : c + (2 * (m * i) + 2 * (n * j) + m * n + i * j) ≡ m * m + i * i + n * n + j * j + m * j + i * n
-
-record Measured (m n i j : ℕ) : Type 0 where
-  c : ℕ
-  of : apart m n i j ≡ pos c
-  is : Is c m n i j
-
--- of two numbers of one sign, and of two signs
-like : (x y : ℕ) → pos (x * x + y * y) -ℤ pos (x * y) ≡ pos (x * x + y * y - x * y)
-like x y = let c = cross x y in diff-pos (x * x + y * y) (x * y) (x * x + y * y - x * y) (omega arith)
-
-unlike : (x y : ℕ) → pos (x * x + y * y) -ℤ negℤ (pos (x * y)) ≡ pos (x * x + y * y + x * y)
-unlike x y = ap (λ (z : ℤ). pos (x * x + y * y) +ℤ z) (negℤ-negℤ (pos (x * y)))
-
-measured : (m n i j : ℕ) → Measured m n i j
-measured m n i j = go (view m i) (view n j)
-  where
-    made : (z w : ℤ) (c : ℕ) → pos m -ℤ pos i ≡ z → pos n -ℤ pos j ≡ w → measure z w ≡ pos c → Is c m n i j → Measured m n i j
-    made z w c f g h e = record { c = c; of = cc (f, g, h); is = e }
-
-    go : View m i → View n j → Measured m n i j
-    go (View.up x f) (View.up y g) = let c = cross x y in made (pos x) (pos y) _ (diff-pos m i x f) (diff-pos n j y g) (like x y) (rw (f, g) (omega arith))
-    go (View.up x f) (View.down y g) = made (pos x) (negsuc y) _ (diff-pos m i x f) (diff-neg n j y g) (unlike x (suc y)) (rw (f, g) (omega arith))
-    go (View.down x f) (View.up y g) = made (negsuc x) (pos y) _ (diff-neg m i x f) (diff-pos n j y g) (unlike (suc x) y) (rw (f, g) (omega arith))
-    go (View.down x f) (View.down y g) = let c = cross (suc x) (suc y) in made (negsuc x) (negsuc y) _ (diff-neg m i x f) (diff-neg n j y g) (like (suc x) (suc y)) (rw (f, g) (omega arith))
 
 -- one of two things holds
 data Either (A B : Type 0) : Type 0 where
@@ -73,20 +25,20 @@ data Either (A B : Type 0) : Type 0 where
 -- ---- the six neighbours of a centre, where the longest way towards one of them is R
 
 module _ (u m n i j R : ℕ) where
-  over : (m′ n′ i′ j′ : ℕ) → ((c c′ : ℕ) → Is c m n i j → Is c′ m′ n′ i′ j′ → c + u * u ≤ c′ + u * R) → (apart m n i j +ℤ pos (u * u)) ≤ℤ (apart m′ n′ i′ j′ +ℤ pos (u * R))
+  over : (m′ n′ i′ j′ : ℕ) → ((c c′ : ℕ) → Is c m n i j → Is c′ m′ n′ i′ j′ → c + u * u ≤ c′ + u * R) → (apart m n (pos i) (pos j) +ℤ pos (u * u)) ≤ℤ (apart m′ n′ (pos i′) (pos j′) +ℤ pos (u * R))
   over m′ n′ i′ j′ h =
       let a = measured m n i j in
       let b = measured m′ n′ i′ j′ in
       rw (a .of, b .of) (leZ-yes (le→leb (a .c + u * u) (b .c + u * R) (h (a .c) (b .c) (a .is) (b .is))))
 
-  even : (m′ n′ i′ j′ : ℕ) → ((c c′ : ℕ) → Is c m n i j → Is c′ m′ n′ i′ j′ → c + u * u ≡ c′ + u * R) → apart m n i j +ℤ pos (u * u) ≡ apart m′ n′ i′ j′ +ℤ pos (u * R)
+  even : (m′ n′ i′ j′ : ℕ) → ((c c′ : ℕ) → Is c m n i j → Is c′ m′ n′ i′ j′ → c + u * u ≡ c′ + u * R) → apart m n (pos i) (pos j) +ℤ pos (u * u) ≡ apart m′ n′ (pos i′) (pos j′) +ℤ pos (u * R)
   even m′ n′ i′ j′ h =
       let a = measured m n i j in
       let b = measured m′ n′ i′ j′ in
       rw (a .of, b .of) (ap pos (h (a .c) (b .c) (a .is) (b .is)))
 
   -- No neighbour is nearer by more than the longest way says.
-  none-nearer : Within m i n j R → (k : ℕ) → k < 6 → (apart m n i j +ℤ pos (u * u)) ≤ℤ (getD (fromNeighbours u m n i j) k (pos 0) +ℤ pos (u * R))
+  none-nearer : Within m i n j R → (k : ℕ) → k < 6 → (apart m n (pos i) (pos j) +ℤ pos (u * u)) ≤ℤ (getD (fromNeighbours u m n i j) k (pos 0) +ℤ pos (u * R))
   none-nearer w zero h = over m n (i + u) j (omega (arith, mul-le-mul-left u (w .i)))
   none-nearer w (suc zero) h = over m n (i + u) (j + u) (omega (arith, mul-le-mul-left u (w .ij)))
   none-nearer w (suc (suc zero)) h = over m n i (j + u) (omega (arith, mul-le-mul-left u (w .j)))
@@ -99,7 +51,7 @@ module _ (u m n i j R : ℕ) where
   pub record Halfway : Type 0 where
     pub which : ℕ
     pub low : which < 6
-    pub same : apart m n i j +ℤ pos (u * u) ≡ getD (fromNeighbours u m n i j) which (pos 0) +ℤ pos (u * R)
+    pub same : apart m n (pos i) (pos j) +ℤ pos (u * u) ≡ getD (fromNeighbours u m n i j) which (pos 0) +ℤ pos (u * R)
 
   towards-i : Either (2 * m + j ≡ n + 2 * i + R) (n + 2 * i ≡ 2 * m + j + R) → Halfway
   towards-i (one e) = record { which = 0; low = lit< tt; same = even m n (i + u) j (omega (arith, ap (λ (z : ℕ). u * z) e)) }
@@ -154,7 +106,7 @@ module _ (u m n : ℕ) (s : Steps) where
           record { i = omega (arith, a .0); i′ = omega (arith, a .1); j = omega (arith, b .0); j′ = omega (arith, b .1); ij = omega (arith, c .0); ij′ = omega (arith, c .1) }
 
   -- Of the six neighbours none is nearer than the reach says, and one is as near: own + unit² is at most other + unit · reach, and is it for one.
-  pub no-nearer : (k : ℕ) → k < 6 → (apart m n i j +ℤ pos (u * u)) ≤ℤ (getD (fromNeighbours u m n i j) k (pos 0) +ℤ pos (u * reachIn u m n s))
+  pub no-nearer : (k : ℕ) → k < 6 → (apart m n (pos i) (pos j) +ℤ pos (u * u)) ≤ℤ (getD (fromNeighbours u m n i j) k (pos 0) +ℤ pos (u * reachIn u m n s))
   no-nearer k h = none-nearer u m n i j (reachIn u m n s) within-reach k h
 
   pub half-way : Halfway u m n i j (reachIn u m n s)

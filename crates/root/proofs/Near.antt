@@ -1,5 +1,5 @@
 -- The square of a root, in units, is the number within one part in 2^50: what the length of a vector stands on. Assumes nothing.
-use mathlib.Core.Path.{sym, ap, _∙_, subst}
+use mathlib.Core.Path.{sym, ap, _∙_}
 use mathlib.Core.Bool.{false}
 use Prim.Native.Nat.{ℕ, _+_, _*_, _^_, _≤_, _<_}
 use native.Mathlib.Nat.{le-trans, le-of-eq, le-refl, le-of-lt, lt-of-lt-of-le, lt-of-le-of-lt, le-mul-of-pos-right, mul-comm, add-mul, one-mul}
@@ -9,10 +9,9 @@ use lib.Pow.{pow-pos}
 use lib.Ieee.{Float, binary64, fits}
 use lib.Ieee.Exact.{HasValue}
 use lib.Ieee.Scale.{grid}
-use Rattle.double.specs.Double.{finite}
 use Rattle.double.specs.Sizes.{unitsOf}
 use Rattle.double.proofs.Near.{Rel, Rounded, rounded, rel-trans, rel-mul, rel-cancel, rel-le}
-use Rattle.double.proofs.Units.{L, round-sized, round-finite}
+use Rattle.double.proofs.Units.{L, value-of}
 use Rattle.root.specs.Root.{IsRoot, wholeRoot, radicandOf, rootOf}
 use Rattle.root.specs.AsWorked.{Positive}
 use Rattle.root.proofs.Squares.{root-le, whole-root-is}
@@ -56,8 +55,4 @@ root-near u U = go L (lit≤ tt) (wholeRoot (u * L)) (rootU u) (whole-root-is (u
 
 -- The root of a double above zero, in units.
 pub root-units : (x : Float) → T (fits binary64 x) → Positive x → HasValue (rootOf x) false (rootU (unitsOf x)) L
-root-units x f p =
-    let is = root-is x p in
-    let I = wholeRoot (radicandOf x) in
-    subst (λ (y : Float). HasValue y false (rootU (unitsOf x)) L) (sym is)
-    (round-sized false I L (round-finite false I L (ap finite (sym is) ∙ root-nearest x f p .number)))
+root-units x f p = value-of (rootOf x) (wholeRoot (radicandOf x)) L (root-is x p) (root-nearest x f p .number)

@@ -3,9 +3,8 @@ use mathlib.Core.Path.{_≡_, refl, sym, ap, _∙_, subst}
 use mathlib.Core.Bool.{true, false, false≢true}
 use Prim.Native.Nat.{ℕ, suc, _+_, _-_, _*_, _/_, _^_, _≤_, _<_}
 use native.Mathlib.Decide.{decLe, ℕ-discrete}
-use native.Mathlib.Nat.{le-trans, le-of-eq, le-of-lt, lt-of-lt-of-le, lt-of-le-of-lt, lt-of-not-le, lt-irrefl, mul-assoc, mul-le-mul, mul-le-mul-right, mul-lt-mul-of-pos-right, lt-of-mul-lt-mul-right, mul-pos, mul-one}
+use native.Mathlib.Nat.{le-trans, le-of-eq, le-of-lt, lt-of-lt-of-le, lt-of-le-of-lt, lt-of-not-le, lt-irrefl, mul-assoc, mul-le-mul, mul-le-mul-right, mul-lt-mul-of-pos-right, lt-of-mul-lt-mul-right, mul-pos}
 use native.Mathlib.Omega.{arith}
-use lib.IntN.{pos, negsuc}
 use lib.Dec.{T}
 use lib.Pow.{pow-add, pow-pos, pow-mono}
 use lib.Ieee.{Float, nan, inf, fin, binary64, up, fits, size, toBits, round}
@@ -17,8 +16,7 @@ use Rattle.double.specs.Sizes.{unitsOf}
 use Rattle.double.proofs.Sign.{same-bits}
 use Rattle.double.proofs.Sizes.{round-size}
 use Rattle.double.proofs.Nonnegative.{signed}
-use Rattle.double.proofs.Left.{pow-le-back, fits-digits}
-use Rattle.double.proofs.Units.{L, units-of, equals-of}
+use Rattle.double.proofs.Units.{L, units-of, OnGrid, on-grid, equals-of}
 use Rattle.root.specs.Root.{IsRoot, wholeRoot, radicandOf, rootOf, Nearer, NearestRoot}
 use Rattle.root.specs.AsWorked.{NearRoot, Scaling, unitsOfBits, Positive}
 use Rattle.root.proofs.Squares.{root-le, whole-root-is}
@@ -28,33 +26,6 @@ use Rattle.root.proofs.Rules.{pattern-bounds, pattern-units, root-is}
 use Rattle.root.proofs.Rounding.{digits-least, root-value, halved, whole-root-of}
 
 -- ---- the doubles, as numbers M · 2^x of units
-
-record OnGrid (k : ℕ) : Type 0 where
-  digits : ℕ
-  power : ℕ
-  few : digits < 2 ^ 53
-  is : k ≡ digits * 2 ^ power
-
-on-grid : (x : Float) → T (fits binary64 x) → finite x ≡ true → OnGrid (unitsOf x)
-on-grid nan f h = absurd (false≢true h)
-on-grid (inf s) f h = absurd (false≢true h)
-on-grid (fin s m (pos k)) f h =
-    record {
-      digits = m;
-      power = k + 1074;
-      few = fits-digits s m (pos k) f .0;
-      is = units-of (fin s m (pos k)) (m * 2 ^ (k + 1074)) (ap (λ (n : ℕ). n) (mul-assoc m (2 ^ k) L ∙ ap (λ (n : ℕ). m * n) (sym (pow-add 2 k 1074)) ∙ sym (mul-one (m * 2 ^ (k + 1074)))));
-    }
-on-grid (fin s m (negsuc k)) f h =
-    let d = fits-digits s m (negsuc k) f in
-    let fine : suc k ≤ 1074 = pow-le-back (suc k) 1074 (d .1) in
-    let p : L ≡ 2 ^ (1074 - suc k) * 2 ^ suc k = ap (λ (n : ℕ). 2 ^ n) (sym (back 1074 (suc k) fine)) ∙ pow-add 2 (1074 - suc k) (suc k) in
-    record {
-      digits = m;
-      power = 1074 - suc k;
-      few = d .0;
-      is = units-of (fin s m (negsuc k)) (m * 2 ^ (1074 - suc k)) (ap (λ (n : ℕ). n * L) (mul-one m) ∙ ap (λ (n : ℕ). m * n) p ∙ sym (mul-assoc m (2 ^ (1074 - suc k)) (2 ^ suc k)));
-    }
 
 -- A double above q · 2^k, for a q of 53 digits, is at least (q + 1) · 2^k; and one below it at most (q - 1) · 2^k, where q is not the least of its digits.
 module _ (q k n : ℕ) (g : OnGrid n) where

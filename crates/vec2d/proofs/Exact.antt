@@ -18,10 +18,10 @@ use Rattle.vec2d.specs.declared.Vec2d.{Vec2d}
 use Rattle.vec2d.specs.Rounding.{roundVerdict, Near, x1Of, x2Of, quantizedOf}
 use Rattle.vec2d.proofs.Accepted.{accepted, first-upto, second-upto}
 
-wide-first : (v : Vec2d) → Near v → Upto (2 ^ 53) (x1Of v)
+pub wide-first : (v : Vec2d) → Near v → Upto (2 ^ 53) (x1Of v)
 wide-first v p = upto-le (2 ^ 26 - 1) (2 ^ 53) (x1Of v) (lit≤ tt) (first-upto v p)
 
-wide-second : (v : Vec2d) → Near v → Upto (2 ^ 53) (x2Of v)
+pub wide-second : (v : Vec2d) → Near v → Upto (2 ^ 53) (x2Of v)
 wide-second v p = upto-le (2 ^ 26 - 1) (2 ^ 53) (x2Of v) (lit≤ tt) (second-upto v p)
 
 -- what is known of whole parts and leftovers: with x1 = num / den as a fraction, m1 is its quotient and r1 its remainder over den, and so for x2

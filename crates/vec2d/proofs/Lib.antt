@@ -2,6 +2,7 @@
 pub mod Folding
 pub mod SourceFolds
 pub mod Mirror
+pub mod Unfolding
 pub mod Whole
 pub mod Accepted
 pub mod Answers
@@ -11,6 +12,10 @@ pub mod Hexagon
 pub mod Fractions
 pub mod Telling
 pub mod Branches
+pub mod Measures
+pub mod Nearest
+pub mod Trusting
 pub mod Checked
 pub mod Unique
+pub mod Roundoff
 pub mod Order

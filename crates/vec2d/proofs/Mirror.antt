@@ -12,7 +12,8 @@ use Rattle.vec2d.specs.Rounding.{folded}
 abbrev pub twiceX : ℤ → ℤ → ℤ
 twiceX i j = pos 2 *ℤ i -ℤ j
 
-at : (i j : ℤ) (a b c d : ℕ) → i ≡ pos a -ℤ pos b → j ≡ pos c -ℤ pos d → twiceX i j ≡ pos (2 * a + d) -ℤ pos (2 * b + c)
+-- the same of two differences
+pub at : (i j : ℤ) (a b c d : ℕ) → i ≡ pos a -ℤ pos b → j ≡ pos c -ℤ pos d → twiceX i j ≡ pos (2 * a + d) -ℤ pos (2 * b + c)
 at i j a b c d p q = (λ n. pos 2 *ℤ p n -ℤ q n) ∙ ap (λ (z : ℤ). z -ℤ (pos c -ℤ pos d)) (times 2 a b) ∙ minus (2 * a) (2 * b) c d
 
 left-mirrors : (i j : ℤ) → twiceX (j -ℤ i) j ≡ negℤ (twiceX i j)

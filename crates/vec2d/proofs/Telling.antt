@@ -73,7 +73,7 @@ exact : Exact E
 exact n h = round-exact binary64 false n E n 1030 (lit< tt) h (lt-trans (shl-lt 53 1030 h) (pow-lt {i = 1083} {j = 2098} (lit< tt))) (sym (mul-assoc n (2 ^ 1030) E))
 
 -- a number whose sign is clear has its own fraction for its value
-plus-value : (x : Float) → finite x ≡ true → sizeOf x ≡ x → HasValue x false (num x) (den x)
+pub plus-value : (x : Float) → finite x ≡ true → sizeOf x ≡ x → HasValue x false (num x) (den x)
 plus-value nan f p = absurd (false≢true f)
 plus-value (inf s) f p = absurd (false≢true f)
 plus-value (fin true m e) f p = signed m e p

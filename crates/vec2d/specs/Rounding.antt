@@ -59,24 +59,46 @@ quantizedOf v = record { m1 = wholeOf (x1Of v); m2 = wholeOf (x2Of v); r1 = left
 abbrev pub steps : Bool → Bool → Steps
 steps i j = record { i = i; j = j }
 
+-- What the branches compare the leftovers with: r1 with 1/3, 1/2 and 2/3, and r2 with five numbers that go by r1.
+abbrev pub third : Float
+third = div binary64 one three
+
+abbrev pub halfway : Float
+halfway = half
+
+abbrev pub thirds : Float
+thirds = div binary64 two three
+
+abbrev pub middleOf : Float → Float
+middleOf r1 = div binary64 (add binary64 one r1) two
+
+abbrev pub restOf : Float → Float
+restOf r1 = sub binary64 one r1
+
+abbrev pub twiceOf : Float → Float
+twiceOf r1 = mul binary64 two r1
+
+-- `mul_add(2.0, r1, -1.)`, which has the same bits rounded once or twice (`once-or-twice` of proofs/Exact)
+abbrev pub lessOneOf : Float → Float
+lessOneOf r1 = sub binary64 (mul binary64 two r1) one
+
+abbrev pub halvedOf : Float → Float
+halvedOf r1 = div binary64 r1 two
+
 -- The branches in the source's order: four stripes of r1, and in each one test for i and one for j.
 --   r1          i is m1 + 1 where               j is m2 + 1 where
 --   below 1/3   never                           r2 ≥ (1 + r1)/2
 --   below 1/2   r2 ≥ 1 - r1 and r2 < 2·r1       r2 ≥ 1 - r1
 --   below 2/3   r2 ≤ 2·r1 - 1 or r2 ≥ 1 - r1    r2 ≥ 1 - r1
 --   the rest    always                          r2 ≥ r1/2
--- `mul_add(2.0, r1, -1.)` is 2·r1 - 1, which has the same bits rounded once or twice (`once-or-twice` of proofs/Exact).
 unfoldable pub stepsOf : Float → Float → Steps
 stepsOf r1 r2 =
-    let past = le (sub binary64 one r1) r2 in
-    let twice = mul binary64 two r1 in
-    let belowThird = steps false (le (div binary64 (add binary64 one r1) two) r2) in
-    let belowHalf = steps (past && lt r2 twice) past in
-    let belowTwoThirds = steps (le r2 (sub binary64 twice one) || past) past in
-    let rest = steps true (le (div binary64 r1 two) r2) in
-    pick (lt r1 half)
-    (pick (lt r1 (div binary64 one three)) belowThird belowHalf)
-    (pick (lt r1 (div binary64 two three)) belowTwoThirds rest)
+    let past = le (restOf r1) r2 in
+    let belowThird = steps false (le (middleOf r1) r2) in
+    let belowHalf = steps (past && lt r2 (twiceOf r1)) past in
+    let belowTwoThirds = steps (le r2 (lessOneOf r1) || past) past in
+    let rest = steps true (le (halvedOf r1) r2) in
+    pick (lt r1 halfway) (pick (lt r1 third) belowThird belowHalf) (pick (lt r1 thirds) belowTwoThirds rest)
 
 abbrev pub raisedBy : Bool → ℕ → ℕ
 raisedBy b m = pick b (m + 1) m

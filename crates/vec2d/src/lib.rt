@@ -4,6 +4,7 @@ ghost use Prim.Native.Nat.{_≤_, _<_, _^_};
 ghost use Rattle.reply.specs.Choice.{pick};
 ghost use Rattle.vec2d.specs.Points.{point, isPoint, saidPointed};
 ghost use Rattle.vec2d.specs.Rounding.{tooFar, inside, roundVerdict, Near, quantizedOf, steps, stepsOf, raisedBy, foldOf, foundOf, saidRounded, roundReply};
+ghost use Rattle.vec2d.specs.Nearest.{Shown};
 ghost use Rattle.vec2d.specs.Centre.{centreOf, centreReply};
 ghost use Rattle.vec2d.specs.Meeting.{along, divisorOf, shareOf, reachedOf, crossingOf, metOf, isLine, meetReply};
 ghost use Rattle.vec2d.specs.Closeness.{within, close, saidAlike, alikeReply};
@@ -243,7 +244,8 @@ impl Vec2d {
 
     // The hexagon and the leftovers of the point x, y. The two stand apart, so that they come in registers: a point read back from memory at once costs a third more.
     fn rounded(x: f64, y: f64) -> Rounded
-        ensures { λ r. ⌜ saidRounded r ≡ roundReply (point x y) ⌝ }
+        ensures replies { λ r. ⌜ saidRounded r ≡ roundReply (point x y) ⌝ }
+        ensures shown { λ r. ⌜ Shown (point x y) r ⌝ }
     {
         let at = Vec2d::new(x, y);
         let verdict = at.verdict();
@@ -253,9 +255,10 @@ impl Vec2d {
         }
     }
 
-    // The hexagon that holds the point, `From<Vec2d> for CoordIJK` of the source, and the leftovers that its branches saw.
+    // The hexagon that holds the point, `From<Vec2d> for CoordIJK` of the source, and the leftovers that its branches saw. Its centre is shown to be the nearest.
     pub fn to_ijk(self) -> Rounded
-        ensures { λ r. ⌜ saidRounded r ≡ roundReply self ⌝ }
+        ensures replies { λ r. ⌜ saidRounded r ≡ roundReply self ⌝ }
+        ensures shown { λ r. ⌜ Shown self r ⌝ }
     {
         Vec2d::rounded(self.x, self.y)
     }

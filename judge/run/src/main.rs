@@ -1,4 +1,5 @@
 //! Asks the Rust of docs/src and the proved library the same questions and compares every answer.
+mod axes;
 mod bench;
 mod borders;
 mod chance;
@@ -8,6 +9,7 @@ mod lists;
 mod longest;
 mod margin;
 mod names;
+mod nearest;
 mod ours;
 mod places;
 mod plain;
@@ -64,13 +66,15 @@ impl Tally {
 /// A question's name and who asks it.
 type Question = (&'static str, fn(&mut Tally));
 
-const QUESTIONS: [Question; 37] = [
+const QUESTIONS: [Question; 39] = [
     ("raise", grids::run_raise),
     ("grid", grids::run_grid),
     ("reduce", grids::run_reduce),
     ("map", grids::run_map),
     ("round", round::run),
     ("margin", margin::run),
+    ("nearest centre", nearest::run),
+    ("x1 and x2", axes::run),
     ("centre", plane::run_centre),
     ("meet", plane::run_meet),
     ("alike", plane::run_alike),

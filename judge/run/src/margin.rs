@@ -7,9 +7,6 @@ use h3o::coord::Vec2d;
 /// One hexagon, in the 2^51sts that the rule counts.
 const ONE: i64 = 1 << 51;
 
-/// The source's 1/sin(60°).
-const RSIN60: f64 = 1.1547005383792515;
-
 /// The steps from the whole parts to the hexagon, by the source's branches.
 fn steps([r1, r2]: Left) -> [i64; 2] {
     let past = r2 >= 1. - r1;
@@ -107,8 +104,7 @@ fn ask(tally: &mut Tally, seen: &mut Seen, left: Left) -> f64 {
 fn ask_point(tally: &mut Tally, seen: &mut Seen, (x, y): (f64, f64)) {
     let (hexagon, left) = round::rounded(Vec2d::new(x, y));
     let margin = ask(tally, seen, left);
-    let x2 = y.abs() * RSIN60;
-    let whole = [x.abs() + x2 / 2., x2].map(|n| n as i64);
+    let whole = round::before_folds((x, y)).map(|n| n as i64);
     let (unfolded, _) = round::rounded(Vec2d::new(x.abs(), y.abs()));
     let chosen = [i64::from(unfolded.i()) - whole[0], i64::from(unfolded.j()) - whole[1]];
     tally.also(chosen == steps(left), || format!("margin of {x:?} {y:?}: the Rust steps {chosen:?}"));
@@ -121,7 +117,7 @@ fn ask_point(tally: &mut Tally, seen: &mut Seen, (x, y): (f64, f64)) {
 }
 
 /// Where r2's tests change, for any r1.
-fn edges(r1: f64) -> [f64; 5] {
+pub fn edges(r1: f64) -> [f64; 5] {
     [f64::midpoint(1., r1), 1. - r1, 2. * r1, 2. * r1 - 1., r1 / 2.]
 }
 
@@ -132,7 +128,7 @@ const ODD: [f64; 17] = [
 ];
 
 /// A number for 4, and for 0 to 8 the patterns on either side.
-fn moved(x: f64, by: u64) -> f64 {
+pub fn moved(x: f64, by: u64) -> f64 {
     f64::from_bits(x.to_bits().wrapping_add(by).wrapping_sub(4))
 }
 
@@ -151,7 +147,7 @@ fn odd_pairs(tally: &mut Tally, seen: &mut Seen) {
 }
 
 /// Any bits, a leftover of any size, a subnormal, one next to where r1's tests change, one of all digits; else an even spread.
-fn some_leftover(c: &mut Chance) -> f64 {
+pub fn some_leftover(c: &mut Chance) -> f64 {
     match c.below(8) {
         0 => f64::from_bits(c.bits()),
         1 => f64::from_bits(c.below(1f64.to_bits())),

@@ -4,7 +4,16 @@ use crate::{Tally, chance::Chance, ours, ours::{Left, Said}};
 use h3o::coord::{CoordIJK, Vec2d};
 use h3o::leftovers;
 
-const LIMIT: f64 = 33554432.;
+pub const LIMIT: f64 = 33554432.;
+
+/// The source's 1/sin(60°).
+const RSIN60: f64 = 1.1547005383792515;
+
+/// Document 01's x1 and x2 of a point: where it lies in the coordinates of hexagons, before the folds.
+pub fn before_folds((x, y): (f64, f64)) -> [f64; 2] {
+    let x2 = y.abs() * RSIN60;
+    [x.abs() + x2 / 2., x2]
+}
 
 /// The Rust's hexagon of a point and the leftovers: the copy that notes them must round as the original does.
 pub fn rounded(point: Vec2d) -> (CoordIJK, Left) {

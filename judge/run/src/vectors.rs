@@ -12,7 +12,7 @@ const OFF: f64 = 1. / (1u64 << 40) as f64;
 const TIE: f64 = 1. / (1u64 << 47) as f64;
 /// What the roundings of either projection may come to at level 0, beside the angle's: 32 times 2^-52.
 const ROUNDINGS: f64 = 32. * f64::EPSILON;
-const SIN60: f64 = 0.8660254037844386;
+pub const SIN60: f64 = 0.8660254037844386;
 /// The plane's unit on the tangent plane of a face at level 0.
 const UNIT: f64 = 0.3819660112501051;
 
@@ -117,10 +117,10 @@ fn refusal(frame: &Frame, level: u32, v: Vector) -> u32 {
 }
 
 /// A place that is answered by document 01's formulas, with the plane point it was rounded from and what was left over.
-struct ByRule {
+pub struct ByRule {
     face: usize,
     gap: f64,
-    point: (f64, f64),
+    pub point: (f64, f64),
     coord: CoordIJK,
     left: Left,
 }
@@ -257,14 +257,14 @@ fn beside_rust(tally: &mut Tally, seen: &mut Level, v: Vector, level: u32, rule:
 }
 
 /// Document 01's place, or its refusal.
-fn by_rule(frame: &Frame, v: Vector, level: u32) -> Result<ByRule, u32> {
+pub fn by_rule(frame: &Frame, v: Vector, level: u32) -> Result<ByRule, u32> {
     match refusal(frame, level, v) {
         0 => ByRule::new(frame, v, level),
         n => Err(n),
     }
 }
 
-fn said_of(rule: &Result<ByRule, u32>) -> Said<6> {
+pub fn said_of(rule: &Result<ByRule, u32>) -> Said<6> {
     rule.as_ref().map_or_else(|&n| Said::refused(n), ByRule::said)
 }
 
@@ -465,7 +465,7 @@ pub fn some_level(c: &mut Chance) -> u32 {
 }
 
 /// Asks about the default frame, and now and then about another.
-fn each(many: u64, chance: u64, mut ask: impl FnMut(&Frame, Vector, u32)) {
+pub fn each(many: u64, chance: u64, mut ask: impl FnMut(&Frame, Vector, u32)) {
     let (frame, others) = (Frame::default(), other_frames());
     let mut c = Chance(chance);
     for n in 0..many {

@@ -35,7 +35,7 @@ returns-2 c =
     let t = b .rounded .given .0 .0 in
     parts-answers false (roundReply (point (a .x) (a .y))) 3 2 (a .out .now) (a .left .now) refl (e .if1 .left) _ (coordValues (t .hexagon)) _
     (t .left .r1 ∷ t .left .r2 ∷ []) (c .before .before .put-doubles .last .0)
-    (ap saidRounded (sym (b .rounded .given .1)) ∙ (b .before .before .to-ijk .ensures ∙ ap roundReply (b .before .before .before .new .ensures)))
+    (ap saidRounded (sym (b .rounded .given .1)) ∙ (b .before .before .to-ijk .ensures .0 ∙ ap roundReply (b .before .before .before .new .ensures)))
     refl refl (c .before .before .before .before .before .before .before .put .ensures) (c .before .before .put-doubles .ensures)
 
 returns-3 : tie.Need-returns-3
@@ -44,7 +44,7 @@ returns-3 c =
     let e = b .before .before .before .before in
     let a = e .before .before .before .args in
     parts-refuses false (roundReply (point (a .x) (a .y))) 3 2 (a .out .now) (a .left .now) refl (e .if1 .left) 5 _ (b .rounded2 .given .0 .0)
-    (ap saidRounded (sym (b .rounded2 .given .1)) ∙ (b .before .before .to-ijk .ensures ∙ ap roundReply (b .before .before .before .new .ensures)))
+    (ap saidRounded (sym (b .rounded2 .given .1)) ∙ (b .before .before .to-ijk .ensures .0 ∙ ap roundReply (b .before .before .before .new .ensures)))
     (c .number2 .ensures)
 
 pub round-spec : {M : Type 1} → statement M
