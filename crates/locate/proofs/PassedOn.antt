@@ -46,6 +46,8 @@ pub place-in-unit : (s : List Float) (l : ℕ) (p : Vec3d) → locateVerdict s l
 place-in-unit s l p e = in-unit (nearPoint s l p) (answered-rounds s l p e)
 
 -- And the place's hexagon, unfolded, is the centre nearest to the plane point's x1 and x2.
-pub place-trusted : (s : List Float) (l : ℕ) (p : Vec3d) → locateVerdict s l p ≡ Fine → let t = spotOf s l p in Trusted (nearPoint s l p) (record { hexagon = coordOf (t .place); left = t .left })
+pub place-trusted : (s : List Float) (l : ℕ) (p : Vec3d) → locateVerdict s l p ≡ Fine
+    → let t = spotOf s l p in
+    Trusted (nearPoint s l p) (record { hexagon = coordOf (t .place); left = t .left })
 unfolding placeOf
 place-trusted s l p e = trusted (nearPoint s l p) (answered-rounds s l p e)

@@ -5,7 +5,7 @@ use Prim.Native.Nat.{ℕ, zero, suc, _+_, _-_, _*_, _≤_, _<_, max}
 use native.Mathlib.Nat.{mul-le-mul-left, lt-irrefl}
 use native.Mathlib.Decide.{decLe}
 use native.Mathlib.Omega.{arith}
-use lib.IntN.{pos, _+ℤ_}
+use lib.IntN.{ℤ, pos, _+ℤ_}
 use lib.Dec.{le→leb, lit<}
 use lib.ListN.{getD}
 use lib.Signed.{_≤ℤ_, leZ-yes}
@@ -25,20 +25,26 @@ data Either (A B : Type 0) : Type 0 where
 -- ---- the six neighbours of a centre, where the longest way towards one of them is R
 
 module _ (u m n i j R : ℕ) where
-  over : (m′ n′ i′ j′ : ℕ) → ((c c′ : ℕ) → Is c m n i j → Is c′ m′ n′ i′ j′ → c + u * u ≤ c′ + u * R) → (apart m n (pos i) (pos j) +ℤ pos (u * u)) ≤ℤ (apart m′ n′ (pos i′) (pos j′) +ℤ pos (u * R))
+  -- the squared distance from the centre, and from another's: that of the point (m′, n′) from (i′, j′)
+  abbrev own : ℤ
+  own = apart m n (pos i) (pos j)
+
+  over : (m′ n′ i′ j′ : ℕ) → ((c c′ : ℕ) → Is c m n i j → Is c′ m′ n′ i′ j′ → c + u * u ≤ c′ + u * R)
+      → (own +ℤ pos (u * u)) ≤ℤ (apart m′ n′ (pos i′) (pos j′) +ℤ pos (u * R))
   over m′ n′ i′ j′ h =
       let a = measured m n i j in
       let b = measured m′ n′ i′ j′ in
       rw (a .of, b .of) (leZ-yes (le→leb (a .c + u * u) (b .c + u * R) (h (a .c) (b .c) (a .is) (b .is))))
 
-  even : (m′ n′ i′ j′ : ℕ) → ((c c′ : ℕ) → Is c m n i j → Is c′ m′ n′ i′ j′ → c + u * u ≡ c′ + u * R) → apart m n (pos i) (pos j) +ℤ pos (u * u) ≡ apart m′ n′ (pos i′) (pos j′) +ℤ pos (u * R)
+  even : (m′ n′ i′ j′ : ℕ) → ((c c′ : ℕ) → Is c m n i j → Is c′ m′ n′ i′ j′ → c + u * u ≡ c′ + u * R)
+      → own +ℤ pos (u * u) ≡ apart m′ n′ (pos i′) (pos j′) +ℤ pos (u * R)
   even m′ n′ i′ j′ h =
       let a = measured m n i j in
       let b = measured m′ n′ i′ j′ in
       rw (a .of, b .of) (ap pos (h (a .c) (b .c) (a .is) (b .is)))
 
   -- No neighbour is nearer by more than the longest way says.
-  none-nearer : Within m i n j R → (k : ℕ) → k < 6 → (apart m n (pos i) (pos j) +ℤ pos (u * u)) ≤ℤ (getD (fromNeighbours u m n i j) k (pos 0) +ℤ pos (u * R))
+  none-nearer : Within m i n j R → (k : ℕ) → k < 6 → (own +ℤ pos (u * u)) ≤ℤ (getD (fromNeighbours u m n i j) k (pos 0) +ℤ pos (u * R))
   none-nearer w zero h = over m n (i + u) j (omega (arith, mul-le-mul-left u (w .i)))
   none-nearer w (suc zero) h = over m n (i + u) (j + u) (omega (arith, mul-le-mul-left u (w .ij)))
   none-nearer w (suc (suc zero)) h = over m n i (j + u) (omega (arith, mul-le-mul-left u (w .j)))
@@ -51,7 +57,7 @@ module _ (u m n i j R : ℕ) where
   pub record Halfway : Type 0 where
     pub which : ℕ
     pub low : which < 6
-    pub same : apart m n (pos i) (pos j) +ℤ pos (u * u) ≡ getD (fromNeighbours u m n i j) which (pos 0) +ℤ pos (u * R)
+    pub same : own +ℤ pos (u * u) ≡ getD (fromNeighbours u m n i j) which (pos 0) +ℤ pos (u * R)
 
   towards-i : Either (2 * m + j ≡ n + 2 * i + R) (n + 2 * i ≡ 2 * m + j + R) → Halfway
   towards-i (one e) = record { which = 0; low = lit< tt; same = even m n (i + u) j (omega (arith, ap (λ (z : ℕ). u * z) e)) }

@@ -93,12 +93,14 @@ swap : {n1 n2 d c a b : ℕ} → Corner n1 n2 d c a b → Corner n2 n1 d c b a
 swap k = record { own = k .own; is = omega (arith, k .is .sum); near = k .near }
 
 -- where n2 ≤ n1: the triangle of (0, 0), (1, 0) and (1, 1)
-below : (n1 n2 d c x y : ℕ) → d ≡ n1 + x → n1 ≡ n2 + y → 0 < d → Corner n1 n2 d c 0 0 → Corner n1 n2 d c 1 0 → Corner n1 n2 d c 1 1 → 3 * (N * c) ≤ (N + 3) * (d * d)
+below : (n1 n2 d c x y : ℕ) → d ≡ n1 + x → n1 ≡ n2 + y → 0 < d → Corner n1 n2 d c 0 0 → Corner n1 n2 d c 1 0 → Corner n1 n2 d c 1 1
+    → 3 * (N * c) ≤ (N + 3) * (d * d)
 below n1 n2 d c x y g f p a b k =
     let s : x + y + n2 ≡ d = omega arith in
-    let t = third x y n2 (N * c) (d * d)
-    (average x y n2 (N * c) (d * d) (omega arith) (omega (arith, rw (g, f) at (a .is), a .near)) (omega (arith, rw (g, f) at (b .is), b .near)) (omega (arith, rw (g, f) at (k .is), k .near))) in
-    omega (arith, rw s at t)
+    let e =
+    average x y n2 (N * c) (d * d) (omega arith) (omega (arith, rw (g, f) at (a .is), a .near)) (omega (arith, rw (g, f) at (b .is), b .near))
+    (omega (arith, rw (g, f) at (k .is), k .near)) in
+    omega (arith, rw s at (third x y n2 (N * c) (d * d) e))
 
 -- ---- the theorem
 

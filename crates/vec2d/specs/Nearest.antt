@@ -1,4 +1,5 @@
--- The centre that rounding chooses is the nearest, but for 2^-40: over whole numbers, in the coordinates x1, x2 before folding.
+-- Document 02, §6: the centre that rounding chooses is the nearest, but for 2^-40. It is said over whole numbers, in the coordinates x1, x2 before folding.
+-- These are rounded themselves, and how far is another matter: Roundoff.
 use Prim.Native.Nat.{ℕ, _+_, _*_, _^_, _<_}
 use mathlib.Core.Bool.{false}
 use lib.IntN.{ℤ, pos, _+ℤ_, _-ℤ_, _*ℤ_}
@@ -14,7 +15,7 @@ use Rattle.vec2d.specs.declared.Rounded.{Rounded}
 use Rattle.vec2d.specs.declared.Rounded.the-variants.{Done, Refused}
 use Rattle.vec2d.specs.Rounding.{x1Of, x2Of, quantizedOf, folded}
 
--- a² + b² - ab: the squared distance, since a centre lies at x = i - j/2 and y = j·sin 60°
+-- a² + b² - ab: the squared distance, since a centre lies at x = i - j/2 and y = j·sin 60° (`squared-distance` of proofs/Measures)
 abbrev pub measure : ℤ → ℤ → ℤ
 measure a b = a *ℤ a +ℤ b *ℤ b -ℤ a *ℤ b
 
@@ -37,7 +38,7 @@ abbrev pub unfolded : Vec2d → CoordIJK → Signed
 unfolded v c = folded (lt (v .x) nought) (lt (v .y) nought) (pos (c .i) -ℤ pos (c .k)) (pos (c .j) -ℤ pos (c .k))
 
 -- x = m + r, exactly: m is its whole part and r its leftover, which is n / 2^1074 and below 1. Every double is a whole number of 2^-1074, so that this one
--- unit serves every point.
+-- unit serves every point. (`HasValue r false n u` says that r is n / u, and no minus zero.)
 pub record Parted (x : Float) (m : ℕ) (r : Float) : Type 0 where
   pub n : ℕ
   pub left : HasValue r false n (2 ^ 1074)
