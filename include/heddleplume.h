@@ -202,8 +202,8 @@ uint32_t heddleplume_map(uint32_t map, uint32_t i, uint32_t j, uint32_t k, uint3
 /*
  * The hexagon of a plane point, and the leftovers by which it was chosen. It is proved that this hexagon's centre is the nearest to the
  * point whose coordinates are x1 and x2 (see above): the square of the distance, in hexagons, is at most 1/3 + 2^-40, and no other centre's
- * is smaller by more than 2^-40. x1 and x2 are themselves rounded, each by at most one part in 2^51 of itself and two units of 2^-1074 off
- * the exact |x| + |y| / sqrt(3) and 2 * |y| / sqrt(3).
+ * is smaller by more than 2^-40. x1 and x2 are themselves rounded: each is off the exact |x| + |y| / sqrt(3) or 2 * |y| / sqrt(3) by at
+ * most one part in 2^51 of itself and two units of 2^-1074.
  * Writes out[0..2]: i j k; left[0..1]: r1 r2. Refusals: 2 (either is too short), 6, 9.
  */
 uint32_t heddleplume_round(double x, double y, uint32_t *out, size_t out_len, double *left, size_t left_len);

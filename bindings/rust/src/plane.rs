@@ -102,7 +102,7 @@ impl Vec2d {
     ///
     /// It is proved that this hexagon's centre is the nearest to the point whose coordinates are x1 and x2 of [`Leftovers`]: the square of
     /// the distance, in hexagons, is at most 1/3 + 2^-40, and no other centre's is smaller by more than 2^-40. x1 and x2 are themselves
-    /// rounded, each by at most one part in 2^51 of itself and two units of 2^-1074 off the exact |x| + |y|/√3 and 2·|y|/√3.
+    /// rounded: each is off the exact |x| + |y|/√3 or 2·|y|/√3 by at most one part in 2^51 of itself and two units of 2^-1074.
     ///
     /// ```
     /// use heddleplume::{CoordIJK, Leftovers, Refusal, Vec2d};

@@ -2,7 +2,7 @@
 use mathlib.Core.Path.{_≡_, refl, sym, ap, _∙_, subst}
 use mathlib.Core.Bool.{Bool, true, false, _&&_, cond, true≢false, false≢true}
 use Prim.Native.Nat.{ℕ, zero, suc, _+_, _-_, _*_, _/_, _%_, _^_, _≤_, _<_, min}
-use native.Mathlib.Nat.{le-trans, le-of-eq, lt-of-le-of-lt, lt-of-lt-of-le, lt-irrefl, lt-of-not-le, le-of-suc-le-suc, mul-one, one-mul, mul-comm, mul-assoc, mul-le-mul-right, mul-lt-mul-of-pos-right, lt-of-mul-lt-mul-right, le-of-mul-le-mul-right, mul-pos, mod-le, mod-lt, mod-one, div-add-mod'}
+use native.Mathlib.Nat.{le-trans, le-of-eq, eq-of-mul-eq-mul-right, lt-of-le-of-lt, lt-of-lt-of-le, lt-irrefl, lt-of-not-le, le-of-suc-le-suc, mul-one, one-mul, mul-comm, mul-assoc, mul-le-mul-right, mul-lt-mul-of-pos-right, lt-of-mul-lt-mul-right, le-of-mul-le-mul-right, mul-pos, mod-le, mod-lt, mod-one, div-add-mod'}
 use native.Mathlib.Omega.{arith}
 use lib.Arith.{le→nltb}
 use lib.IntN.{ℤ, pos, negsuc}
@@ -65,6 +65,13 @@ pub over : (r : Float) (a c k : ℕ) → HasValue r false a c → HasValue r fal
 over nan a c k v = v
 over (inf s) a c k v = v
 over (fin s m e) a c k v = (v .0, omega (arith, ap (λ (z : ℕ). z * k) (v .1)))
+
+-- two fractions of one value
+pub same-fraction : (r : Float) (a c n k : ℕ) → HasValue r false a c → HasValue r false n k → n * c ≡ a * k
+same-fraction nan a c n k v w = absurd v
+same-fraction (inf s) a c n k v w = absurd v
+same-fraction (fin s m e) a c n k v w =
+    eq-of-mul-eq-mul-right (down e) (down-pos e) (n * c) (a * k) (omega (arith, ap (λ (z : ℕ). z * k) (v .1), ap (λ (z : ℕ). z * c) (w .1)))
 
 pub sub-is : (x y : Float) (a b k c : ℕ) → 0 < c → HasValue x false a c → HasValue y false b c → a ≡ b + k → sub binary64 x y ≡ round binary64 false k c
 unfolding sub add neg sum

@@ -37,7 +37,7 @@ pub record Over (L a l b : ℕ) : Type 0 where
 abbrev pub L : ℕ
 L = 2 ^ 1074
 
-L-pos : 0 < L
+pub L-pos : 0 < L
 L-pos = pow-pos 1074
 
 -- ---- every double is a whole number of units: its digits times a power of two

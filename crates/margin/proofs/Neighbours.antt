@@ -1,7 +1,7 @@
 -- The margin is the distance from the side of the border that runs half way to the nearest neighbour: with own and other the squared distances from the two
 -- centres, unit · (unit - reach) is other - own for the nearest of the six neighbours, and no more than that for the rest. Assumes nothing.
 use mathlib.Core.Path.{_≡_, ap, _∙_}
-use Prim.Native.Nat.{ℕ, zero, suc, _+_, _-_, _*_, _≤_, _<_, max}
+use Prim.Native.Nat.{ℕ, zero, suc, _+_, _*_, _≤_, _<_, max}
 use native.Mathlib.Nat.{mul-le-mul-left, lt-irrefl}
 use native.Mathlib.Decide.{decLe}
 use native.Mathlib.Omega.{arith}

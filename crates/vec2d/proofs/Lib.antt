@@ -1,4 +1,4 @@
--- Laws of `vec2d`: rounding, its range and leftovers, the checked places, unique answers.
+-- Laws of `vec2d`: rounding, its range and leftovers, that it is the nearest, the checked places, unique answers.
 pub mod Folding
 pub mod SourceFolds
 pub mod Mirror

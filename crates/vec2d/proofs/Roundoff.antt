@@ -6,8 +6,7 @@ use Prim.Native.Nat.{ℕ, zero, suc, _+_, _-_, _*_, _/_, _^_, _≤_, _<_}
 use native.Mathlib.Nat.{le-trans, le-of-eq, lt-of-le-of-lt, mul-one, mul-pos, mul-le-mul, mul-le-mul-left, mul-le-mul-right, le-of-mul-le-mul-right, eq-of-mul-eq-mul-right, pow-suc}
 use native.Mathlib.Omega.{arith}
 use lib.Dec.{T, lit<, lit≤}
-use lib.Pow.{pow-pos}
-use lib.Ieee.{Float, nan, inf, fin, binary64, up, down, fits, round, ofBits, mul, div}
+use lib.Ieee.{Float, nan, inf, fin, binary64, down, fits, round, ofBits, mul, div}
 use lib.Ieee.Fits.{down-pos, mul-fits}
 use lib.Ieee.Exact.{HasValue, round-exact}
 use lib.Ieee.Scale.{grid, round-same}
@@ -15,7 +14,8 @@ use Rattle.reply.specs.declared.Verdict.the-variants.{Fine}
 use Rattle.double.specs.Double.{finite, sizeOf, rsin60, two}
 use Rattle.double.specs.Sizes.{Upto, unitsOf}
 use Rattle.double.proofs.Near.{Sharp, sharp}
-use Rattle.double.proofs.Units.{L, units-equal, units-of, OnGrid, on-grid, value-of, equals-of, add-round}
+use Rattle.double.proofs.Left.{same-fraction}
+use Rattle.double.proofs.Units.{L, L-pos, units-equal, units-of, OnGrid, on-grid, value-of, equals-of, add-round}
 use Rattle.double.proofs.Nonnegative.{upto-le, halved-upto}
 use Rattle.vec2d.specs.declared.Vec2d.{Vec2d}
 use Rattle.vec2d.specs.Rounding.{roundVerdict, Near, x1Of, x2Of}
@@ -143,9 +143,6 @@ first-units Y X H A S p h t = go (slack S) (slack-is S)
 
 -- ---- a rounded double, in units
 
-L-pos : 0 < L
-L-pos = pow-pos 1074
-
 -- a common factor of the fraction
 cancel : (L n c g : ℕ) → 0 < L → Sharp (n * L) (c * L) g → Sharp n c g
 cancel L n c g P r = record {
@@ -154,13 +151,13 @@ cancel L n c g P r = record {
 }
 
 -- x is a / c units, rounded to g units
-record Is (x : Float) (a c g : ℕ) : Type 0 where
+record RoundsTo (x : Float) (a c g : ℕ) : Type 0 where
   from : x ≡ round binary64 false a (c * L)
   value : HasValue x false g L
   near : Sharp a c g
 
-is : (x : Float) (a c : ℕ) → 0 < c → x ≡ round binary64 false a (c * L) → finite x ≡ true → Is x a c (unitsOf x)
-is x a c P e h =
+rounds-to : (x : Float) (a c : ℕ) → 0 < c → x ≡ round binary64 false a (c * L) → finite x ≡ true → RoundsTo x a c (unitsOf x)
+rounds-to x a c P e h =
     let g = grid binary64 a (c * L) in
     let v = value-of x a (c * L) e h in
     let u = sym (units-of x g (equals-of x false g L v)) in
@@ -188,10 +185,8 @@ times-is (fin false m e) a c P v =
 -- ---- the half of a double
 
 -- one value, in halves and in wholes
-twice : (X H L : ℕ) (z : Float) → HasValue z false X (2 * L) → HasValue z false H L → X ≡ 2 * H
-twice X H L nan p q = absurd p
-twice X H L (inf t) p q = absurd p
-twice X H L (fin t k c) p q = eq-of-mul-eq-mul-right (down c) (down-pos c) X (2 * H) (omega (arith, p .1, q .1))
+twice : (X H L : ℕ) → 0 < L → H * (2 * L) ≡ X * L → X ≡ 2 * H
+twice X H L P e = eq-of-mul-eq-mul-right L P X (2 * H) (omega (arith, e))
 
 -- A number up to 2^26 has up to 2^26 · L units.
 top : (x : Float) (X L : ℕ) → Upto (2 ^ 26 - 1) x → HasValue x false X L → X ≤ (2 ^ 26 - 1) * L
@@ -200,7 +195,7 @@ top (inf s) X L u v = absurd v
 top (fin s m e) X L u v = le-of-mul-le-mul-right {k = down e} (omega (arith, v .1, mul-le-mul-right L (u .under .size))) (down-pos e)
 
 -- Half of a double: where its units are digits times a power of two, exact; where they are the digits alone, below 2^53, off by half a unit at most.
-halved : (x y : Float) (H : ℕ) → T (fits binary64 x) → Upto (2 ^ 26 - 1) x → HasValue x false (unitsOf x) L → Is y (unitsOf x) 2 H → Halved (unitsOf x) H
+halved : (x y : Float) (H : ℕ) → T (fits binary64 x) → Upto (2 ^ 26 - 1) x → HasValue x false (unitsOf x) L → RoundsTo y (unitsOf x) 2 H → Halved (unitsOf x) H
 halved x y H f u v i = go (unitsOf x) (top x (unitsOf x) L u v) (on-grid x f (u .under .number)) i
   where
     low : (X : ℕ) → X < 2 ^ 53 → Sharp X 2 H → Halved X H
@@ -212,15 +207,15 @@ halved x y H f u v i = go (unitsOf x) (top x (unitsOf x) L u v) (on-grid x f (u 
     part : (m P X : ℕ) → X ≡ m * (P * 2) → (m * P ≤ X) × ((L : ℕ) → X * L ≡ m * P * (2 * L))
     part m P X h = (omega arith, λ L. omega (arith, ap (λ (n : ℕ). n * L) h))
 
-    by : (X m j : ℕ) → X ≤ (2 ^ 26 - 1) * L → X ≡ m * 2 ^ j → m < 2 ^ 53 → Is y X 2 H → Halved X H
+    by : (X m j : ℕ) → X ≤ (2 ^ 26 - 1) * L → X ≡ m * 2 ^ j → m < 2 ^ 53 → RoundsTo y X 2 H → Halved X H
     by X m zero l h g i = low X (lt-of-le-of-lt (le-of-eq (h ∙ mul-one m)) g) (i .near)
     by X m (suc j) l h g i =
         let p = part m (2 ^ j) X (h ∙ ap (λ (n : ℕ). m * n) (pow-suc 2 j)) in
         let fine : m * 2 ^ j < 2 ^ 2098 = lt-of-le-of-lt (le-trans (p .0) l) (lit< tt) in
-        let exact = round-exact binary64 false X (2 * L) m j (lit< tt) g fine (p .1 L) in
-        same X (twice X H L y (subst (λ (z : Float). HasValue z false X (2 * L)) (sym (i .from)) exact) (i .value))
+        let exact : HasValue y false X (2 * L) = subst (λ (z : Float). HasValue z false X (2 * L)) (sym (i .from)) (round-exact binary64 false X (2 * L) m j (lit< tt) g fine (p .1 L)) in
+        same X (twice X H L L-pos (same-fraction y X (2 * L) H L exact (i .value)))
 
-    go : (X : ℕ) → X ≤ (2 ^ 26 - 1) * L → OnGrid X → Is y X 2 H → Halved X H
+    go : (X : ℕ) → X ≤ (2 ^ 26 - 1) * L → OnGrid X → RoundsTo y X 2 H → Halved X H
     go X l g i = by X (g .digits) (g .power) l (g .is) (g .few) i
 
 -- ---- the coordinates of a point
@@ -229,28 +224,28 @@ module _ (v : Vec2d) (f : Held v) (p : Near v) where
   abbrev half : Float
   half = div binary64 (x2Of v) two
 
-  x2-is : Is (x2Of v) (unitsOf (v .y) * C) (2 ^ 52) (unitsOf (x2Of v))
-  x2-is =
+  x2-rounds : RoundsTo (x2Of v) (unitsOf (v .y) * C) (2 ^ 52) (unitsOf (x2Of v))
+  x2-rounds =
       let y = size-value (v .y) (f .y) (p .y .number) in
-      is (x2Of v) _ (2 ^ 52) (lit< tt) (times-is (sizeOf (v .y)) (unitsOf (v .y)) L L-pos y) (second-upto v p .under .number)
+      rounds-to (x2Of v) _ (2 ^ 52) (lit< tt) (times-is (sizeOf (v .y)) (unitsOf (v .y)) L L-pos y) (second-upto v p .under .number)
 
-  half-value : Is half (unitsOf (x2Of v)) 2 (unitsOf half)
-  half-value =
+  x2-halved : RoundsTo half (unitsOf (x2Of v)) 2 (unitsOf half)
+  x2-halved =
       let u = halved-upto (2 ^ 26) (x2Of v) (upto-le (2 ^ 26 - 1) (2 * 2 ^ 26) (x2Of v) (lit≤ tt) (second-upto v p)) (lit≤ tt) in
-      is half (unitsOf (x2Of v)) 2 (lit< tt) (half-is (x2Of v) (unitsOf (x2Of v)) L L-pos (x2-is .value)) (u .under .number)
+      rounds-to half (unitsOf (x2Of v)) 2 (lit< tt) (half-is (x2Of v) (unitsOf (x2Of v)) L L-pos (x2-rounds .value)) (u .under .number)
 
-  x1-is : Is (x1Of v) (unitsOf (v .x) + unitsOf half) 1 (unitsOf (x1Of v))
-  x1-is =
+  x1-rounds : RoundsTo (x1Of v) (unitsOf (v .x) + unitsOf half) 1 (unitsOf (x1Of v))
+  x1-rounds =
       let x = size-value (v .x) (f .x) (p .x .number) in
-      is (x1Of v) _ 1 (lit< tt) (add-round (sizeOf (v .x)) half (unitsOf (v .x)) (unitsOf half) x (half-value .value)) (first-upto v p .under .number)
+      rounds-to (x1Of v) _ 1 (lit< tt) (add-round (sizeOf (v .x)) half (unitsOf (v .x)) (unitsOf half) x (x2-halved .value)) (first-upto v p .under .number)
 
   both : Roundoff v
   both =
       let x2 = unitsOf (x2Of v) in
       let y = unitsOf (v .y) in
-      let t = product y x2 (x2-is .near) in
-      let h = halved (x2Of v) half (unitsOf half) (mul-fits binary64 _ _) (second-upto v p) (x2-is .value) half-value in
-      record { first = first-units y x2 (unitsOf half) (unitsOf (v .x)) (unitsOf (x1Of v)) t h (x1-is .near); second = second-units y x2 t }
+      let t = product y x2 (x2-rounds .near) in
+      let h = halved (x2Of v) half (unitsOf half) (mul-fits binary64 _ _) (second-upto v p) (x2-rounds .value) x2-halved in
+      record { first = first-units y x2 (unitsOf half) (unitsOf (v .x)) (unitsOf (x1Of v)) t h (x1-rounds .near); second = second-units y x2 t }
 
 -- The coordinates of an accepted point are the numbers that they stand for, but for their slack.
 pub roundoff : (v : Vec2d) → Held v → roundVerdict v ≡ Fine → Roundoff v

@@ -2,20 +2,19 @@
 use mathlib.Core.Path.{_≡_, refl, ap, _∙_}
 use mathlib.Core.Bool.{Bool, true, false, true≢false}
 use Prim.Native.Nat.{ℕ, _+_, _*_, _/_, _%_, _^_, _<_}
-use native.Mathlib.Nat.{eq-of-mul-eq-mul-right, lt-of-mul-lt-mul-right, mul-lt-mul-of-pos-right, mod-lt, div-add-mod'}
+use native.Mathlib.Nat.{lt-of-mul-lt-mul-right, mul-lt-mul-of-pos-right, mod-lt, div-add-mod'}
 use native.Mathlib.Omega.{arith}
 use lib.Dec.{T}
 use lib.IntN.{pos}
-use lib.Pow.{pow-pos}
-use lib.Ieee.{Float, nan, inf, fin, binary64, up, down, fits, lt}
+use lib.Ieee.{Float, nan, inf, fin, binary64, fits, lt}
 use lib.Ieee.Exact.{HasValue}
-use lib.Ieee.Fits.{down-pos}
 use lib.Ieee.Positive.{num, den, den-pos}
 use Rattle.reply.specs.declared.Verdict.the-variants.{Fine}
 use Rattle.reply.specs.Choice.{pick}
 use Rattle.double.specs.Double.{nought}
 use Rattle.double.specs.Sizes.{Upto, unitsOf}
-use Rattle.double.proofs.Units.{units-equal}
+use Rattle.double.proofs.Left.{same-fraction}
+use Rattle.double.proofs.Units.{L-pos, units-equal}
 use Rattle.vec2d.specs.declared.Vec2d.{Vec2d}
 use Rattle.vec2d.specs.declared.Steps.{Steps}
 use Rattle.vec2d.specs.Rounding.{roundVerdict, x1Of, x2Of, quantizedOf, stepsOf, raisedBy, nearestOf, foundOf}
@@ -34,13 +33,6 @@ in-units nan a c f v = absurd v
 in-units (inf s) a c f v = absurd v
 in-units (fin true m e) a c f v = absurd (true≢false (v .0))
 in-units (fin false m e) a c f v = (refl, units-equal (fin false m e) f refl)
-
--- two fractions of one value
-same-fraction : (r : Float) (a c n k : ℕ) → HasValue r false a c → HasValue r false n k → n * c ≡ a * k
-same-fraction nan a c n k v w = absurd v
-same-fraction (inf s) a c n k v w = absurd v
-same-fraction (fin s m e) a c n k v w =
-    eq-of-mul-eq-mul-right (down e) (down-pos e) (n * c) (a * k) (omega (arith, ap (λ (z : ℕ). z * k) (v .1), ap (λ (z : ℕ). z * c) (w .1)))
 
 -- a fraction below 1 is so in any unit
 proper : (a c n k : ℕ) → 0 < k → n * c ≡ a * k → a < c → n < k
@@ -62,7 +54,7 @@ parted x r m u f e v =
     record {
       n = unitsOf r;
       left = w;
-      low = proper (num x % den x) (den x) (unitsOf r) (2 ^ 1074) (pow-pos 1074) s (mod-lt (num x) (den-pos x));
+      low = proper (num x % den x) (den x) (unitsOf r) (2 ^ 1074) L-pos s (mod-lt (num x) (den-pos x));
       whole = together x m (num x % den x) (unitsOf r) (2 ^ 1074) (own (2 ^ 53) x u) (ap (λ (z : ℕ). z * den x + num x % den x) e ∙ div-add-mod' (num x) (den x)) s;
     }
 
