@@ -1,4 +1,6 @@
 // The answer to a question of the desk tool: what the C face gives, in slices that were clear.
+#![tactic(auto)]
+
 ghost use Rattle.std.specs.Prelude.{◌≡◌};
 ghost use Rattle.faceijk.specs.Entries.{settle_reply};
 ghost use Rattle.ask_read.specs.declared.Asked.TheVariants.{Settle};
@@ -8,7 +10,7 @@ ghost use Rattle.ask_answer.specs.Answers.{Says};
 use ask_read::{Asked, Question};
 
 // What is to be printed: the refusal's number, 0 for none, and the numbers and the doubles in their order; zeros past them.
-#[derive(Drop)]
+#[derive(Clone, Copy)]
 pub struct Answer {
     pub number: u32,
     pub numbers: [u64; 25],

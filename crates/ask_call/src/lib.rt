@@ -1,4 +1,6 @@
 // The questions of the desk tool as calls of the C face: each with its arguments from the question's fields.
+#![tactic(auto)]
+
 ghost use Rattle.std.specs.Prelude.{◌≡◌, true, []};
 ghost use Rattle.reply.specs.Replies.{zeros};
 ghost use Rattle.vec2d.specs.Meeting.{line_at, meet_reply};

@@ -1,10 +1,12 @@
 // Reads questions from standard input, a line each, to its end, and answers them in order on standard output, on the default frame.
+#![tactic(auto)]
+
 ghost use Rattle.std.specs.Prelude.{◌≡◌, ◌≤◌, length};
 
 use libc::{STDERR_FILENO, STDIN_FILENO, STDOUT_FILENO};
 
 // What is kept while the input is read: so many bytes of a line and of answers, and whether all went well so far.
-#[derive(Drop)]
+#[derive(Clone, Copy)]
 struct Kept {
     pub line: usize,
     pub answers: usize,

@@ -1,4 +1,6 @@
 // A line of a question, lent as a slice of any length and any bytes: its words, read as fields, and what it asks.
+#![tactic(auto)]
+
 ghost use Rattle.std.specs.Prelude.{◌≡◌, ◌+◌, ◌*◌, ◌^◌, ◌≤◌, ◌<◌, length, get_or, take, eqb};
 ghost use Rattle.std.specs.Float.{binary64};
 ghost use Rattle.std.specs.Float.Ieee.{of_bits};
@@ -6,7 +8,7 @@ ghost use Rattle.ask_read.specs.Words.{digit_of, with_digit, spelt, plain, numer
 ghost use Rattle.ask_read.specs.Questions.{rows, row_of, row_at, field_of, blank, unreadable, first_field, others, filled, filled_by, question_of, settle_of, words_from, bare};
 
 // What a word says: a number or a flag, a double, and whether it says anything; zeros elsewhere.
-#[derive(Drop)]
+#[derive(Clone, Copy)]
 pub struct Field {
     pub number: u32,
     pub double: f64,
@@ -14,7 +16,7 @@ pub struct Field {
 }
 
 // The number of the digits read so far, and whether all of them are digits.
-#[derive(Drop)]
+#[derive(Clone, Copy)]
 struct Digits {
     pub value: u64,
     pub good: bool,
@@ -281,7 +283,7 @@ fn flag(s: &[u8], no: &[u8], yes: &[u8]) -> Field
 }
 
 // Which question a line asks.
-#[derive(Drop)]
+#[derive(Clone, Copy)]
 pub enum Asked {
     Round,
     Centre,
@@ -307,7 +309,7 @@ pub enum Asked {
 }
 
 // A question: what is asked, and its fields by their places in the line: a number or a flag (0 or 1) in `numbers`, a double in `doubles`; zeros elsewhere.
-#[derive(Drop)]
+#[derive(Clone, Copy)]
 pub struct Question {
     pub asked: Asked,
     pub numbers: [u32; 9],
@@ -315,7 +317,7 @@ pub struct Question {
 }
 
 // A word read as a field, and the index where the next word begins.
-#[derive(Drop)]
+#[derive(Clone, Copy)]
 struct Taken {
     pub field: Field,
     pub next: usize,

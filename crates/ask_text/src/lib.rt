@@ -1,4 +1,6 @@
 // How the desk tool's answers are written into a lent buffer: a value by the letter of its kind, and a refusal's line.
+#![tactic(auto)]
+
 ghost use Rattle.std.specs.Prelude.{◌+◌, ◌≤◌, ◌<◌, length};
 ghost use Rattle.reply.specs.Choice.{pick};
 ghost use Rattle.text.specs.Writing.{PutAt};

@@ -1,4 +1,6 @@
 // The desk tool's answer to one line: the question read, its entry asked, and the answer written as a line, whole into a lent buffer or not at all.
+#![tactic(auto)]
+
 ghost use Rattle.std.specs.Prelude.{◌≡◌, ◌+◌, ◌≤◌, ◌<◌, length, get_or};
 ghost use Rattle.std.specs.Float.{binary64};
 ghost use Rattle.std.specs.Float.Ieee.{to_bits};

@@ -9,10 +9,11 @@ use Rattle.reply.specs.Choice.{pick}
 use Rattle.level.proofs.Computed.{at}
 use Rattle.coordijk.specs.declared.CoordIJK.{CoordIJK}
 use Rattle.coordijk.specs.declared.GridMap.TheVariants.{Aperture3Ccw, Aperture3Cw, Aperture7Cw}
-use Rattle.coordijk.specs.Coordinates.{coord, least, reduced, Taken, Upto}
+use Rattle.coordijk.specs.Coordinates.{coord, least, reduced, Taken}
 use Rattle.coordijk.specs.Maps.{map_of}
 use Rattle.coordijk.proofs.Reducing.{reduced_shift, reduced_same, reduced_idle, reduced_low}
 use Rattle.boundary.specs.Corners.{through_apertures, offset_of}
+use Rattle.boundary.specs.AsWalked.{Upto}
 
 -- Aperture 3 CCW, then CW, makes a triple three times as large.
 pub three_times : (c : CoordIJK) → map_of Aperture3Cw (map_of Aperture3Ccw c) ≡ reduced (3 * c.i) (3 * c.j) (3 * c.k)

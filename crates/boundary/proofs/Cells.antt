@@ -12,13 +12,13 @@ use Rattle.level.proofs.Computed.{at}
 use Rattle.level.proofs.Sizes.{grid_sound}
 use Rattle.level.proofs.Taking.{grid_low, raised_taken}
 use Rattle.coordijk.specs.declared.CoordIJK.{CoordIJK}
-use Rattle.coordijk.specs.Coordinates.{Taken, Upto}
+use Rattle.coordijk.specs.Coordinates.{Taken}
 use Rattle.faceijk.specs.declared.Place.{Place}
 use Rattle.faceijk.specs.Places.{coord_of}
 use Rattle.boundary.specs.declared.Cell.{Cell}
 use Rattle.boundary.specs.Corners.{class_iii, six_corners, corners_at, coords_values}
 use Rattle.boundary.specs.Landing.{cell_of, shape_of}
-use Rattle.boundary.specs.AsWalked.{Solid}
+use Rattle.boundary.specs.AsWalked.{Upto, Solid}
 use Rattle.boundary.proofs.Apertures.{upto_centre}
 
 pub level_taken : (l : ℕ) → l ≤ 15 → bad_grid (raised_of l) ≡ false

@@ -22,8 +22,7 @@ use Rattle.faceijk.proofs.Settling.{walks, okay_out}
 use Rattle.boundary.specs.declared.Shape.{Shape}
 use Rattle.boundary.specs.Corners.{offset_of, corner_of}
 use Rattle.boundary.specs.Landing.{substrate_of, corner_place, crossed_once, settled_at, land_from, vertex_of, land_at, Reached, here}
-use Rattle.coordijk.specs.Coordinates.{Upto}
-use Rattle.boundary.specs.AsWalked.{Solid, Fit}
+use Rattle.boundary.specs.AsWalked.{Upto, Solid, Fit}
 use Rattle.boundary.proofs.Apertures.{offset_small}
 
 -- the corner of the turn before k, and the centre where there is none: what the code's walk starts with

@@ -74,3 +74,9 @@ pub record Deep (s : Shape) : Type 0 where
   pub fit : Fit s
   pub deep : sum_at s.cell.centre + 9 < 3 * s.cell.m
   pub hexagon : s.sides ≡ 6
+
+-- what the code's sums ask of a triple: no coordinate above n
+pub record Upto (n : ℕ) (c : CoordIJK) : Type 0 where
+  pub i_upto : c.i ≤ n
+  pub j_upto : c.j ≤ n
+  pub k_upto : c.k ≤ n

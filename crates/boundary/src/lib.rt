@@ -1,9 +1,11 @@
 // The corners of a cell and its boundary on the plane: `vertices`, `hexagon_boundary` and `pentagon_boundary` of the source.
+#![tactic(auto)]
+
 ghost use Rattle.std.specs.Prelude.{◌≡◌, false, not, ◌||◌, [], ◌+◌, ◌≤◌, ◌<◌, eqb, pos};
 ghost use Rattle.std.specs.Float.{binary64};
 ghost use Rattle.std.specs.Float.Ieee.{of_int};
 ghost use Rattle.level.specs.Levels.{bad_grid, raised_of, grid_of, Sound};
-ghost use Rattle.coordijk.specs.Coordinates.{Taken, Upto, coord};
+ghost use Rattle.coordijk.specs.Coordinates.{Taken, coord};
 ghost use Rattle.coordijk.specs.Maps.{map_of};
 ghost use Rattle.coordijk.specs.declared.GridMap.TheVariants.{Aperture7Cw};
 ghost use Rattle.vec2d.specs.Centre.{centre_of};
@@ -15,7 +17,7 @@ ghost use Rattle.boundary.specs.Corners.{class_iii, through_apertures, offset_of
 ghost use Rattle.boundary.specs.Landing.{cell_of, substrate_of, corner_place, vertex_of, land_at};
 ghost use Rattle.boundary.specs.CrossingPoints.{point_on, corner_point, edge_line, pointed, cross_at, unless_corner, is_face_edge, away_face, edge_crossing, hexagon_crossing, pentagon_crossing};
 ghost use Rattle.boundary.specs.Boundaries.{points_to, verdict_to, turns_for, said_boundary, boundary_reply};
-ghost use Rattle.boundary.specs.AsWalked.{digit_of, cell_verdict, range_verdict, before_from, boundary_of, within_of, Solid, Fit, Deep};
+ghost use Rattle.boundary.specs.AsWalked.{digit_of, cell_verdict, range_verdict, Upto, before_from, boundary_of, within_of, Solid, Fit, Deep};
 
 use coordijk::CoordIJK;
 use faceijk::{Landed, Overage, Place};
@@ -24,7 +26,7 @@ use reply::{Refusal, Verdict};
 use vec2d::{Line, Pointed, Vec2d};
 
 // The six corners of a cell on the substrate grid of its grid level, on the centre's face; a pentagon takes the first five.
-#[derive(Drop)]
+#[derive(Clone, Copy)]
 pub struct Corners {
     pub refusal: Verdict,
     pub level: GridLevel,
@@ -32,7 +34,7 @@ pub struct Corners {
 }
 
 // A point of a boundary on the plane of a face. The mark says what it is: a corner, a crossing point, or, at 0, unused.
-#[derive(Drop)]
+#[derive(Clone, Copy)]
 pub struct BoundaryPoint {
     pub face: u32,
     pub mark: u32,
@@ -41,7 +43,7 @@ pub struct BoundaryPoint {
 }
 
 // A count, and in the same record room for twelve points.
-#[derive(Drop)]
+#[derive(Clone, Copy)]
 pub struct Boundary {
     pub refusal: Verdict,
     pub count: u32,
@@ -50,7 +52,7 @@ pub struct Boundary {
 
 // A cell on its substrate grid: its centre there, the grid level, that grid, the limit m of the plain grid, and whether it is of Class III. Public for the
 // globe, as are `Shape` and `Before` and what makes and asks them.
-#[derive(Drop)]
+#[derive(Clone, Copy)]
 pub struct Cell {
     pub centre: Place,
     pub level: GridLevel,
@@ -60,7 +62,7 @@ pub struct Cell {
 }
 
 // What is walked round: a cell, how many sides it has, and the first corner.
-#[derive(Drop)]
+#[derive(Clone, Copy)]
 pub struct Shape {
     pub cell: Cell,
     pub sides: u32,
@@ -68,7 +70,7 @@ pub struct Shape {
 }
 
 // What stands before a corner.
-#[derive(Drop)]
+#[derive(Clone, Copy)]
 pub enum Before {
     Nothing,
     Point(BoundaryPoint),

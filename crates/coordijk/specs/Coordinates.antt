@@ -36,12 +36,6 @@ pub record Taken (c : CoordIJK) : Type 0 where
   pub flat : least_of c ≡ 0
   pub low : largest_of c ≤ 67108864
 
--- what a sum of the code asks of a triple: no coordinate above n
-pub record Upto (n : ℕ) (c : CoordIJK) : Type 0 where
-  pub i_upto : c.i ≤ n
-  pub j_upto : c.j ≤ n
-  pub k_upto : c.k ≤ n
-
 -- Q = i² + j² + k² - ij - jk - ki
 abbrev pub norm : ℕ → ℕ → ℕ → ℕ
 norm i j k = i * i + j * j + k * k - (i * j + j * k + k * i)

@@ -1,9 +1,9 @@
--- The maps of document 01's table, and aperture 7 CCW of document 02, §7: each sends i, j, k to the three vectors named, adds them up and reduces.
+-- The maps of document 01's table: each sends i, j, k to the three vectors named, adds them up and reduces.
 use Rattle.std.specs.Prelude.{List, ℕ, zero, suc, ◌+◌, ◌*◌}
 use Rattle.reply.specs.Replies.{Reply, answer, refusal, reply}
 use Rattle.coordijk.specs.declared.CoordIJK.{CoordIJK}
 use Rattle.coordijk.specs.declared.GridMap.{GridMap}
-use Rattle.coordijk.specs.declared.GridMap.TheVariants.{SixthTurnCcw, SixthTurnCw, Aperture3Ccw, Aperture3Cw, Aperture7Cw, Aperture7Ccw}
+use Rattle.coordijk.specs.declared.GridMap.TheVariants.{SixthTurnCcw, SixthTurnCw, Aperture3Ccw, Aperture3Cw, Aperture7Cw}
 use Rattle.coordijk.specs.declared.Mapped.{Mapped}
 use Rattle.coordijk.specs.declared.Mapped.TheVariants.{Done, Refused}
 use Rattle.coordijk.specs.Coordinates.{coord, reduced, verdict_of, coord_values}
@@ -24,7 +24,6 @@ row_of SixthTurnCw = row (coord 1 0 1) (coord 1 1 0) (coord 0 1 1)
 row_of Aperture3Ccw = row (coord 2 0 1) (coord 1 2 0) (coord 0 1 2)
 row_of Aperture3Cw = row (coord 2 1 0) (coord 0 2 1) (coord 1 0 2)
 row_of Aperture7Cw = row (coord 3 1 0) (coord 0 3 1) (coord 1 0 3)
-row_of Aperture7Ccw = row (coord 3 0 1) (coord 1 3 0) (coord 0 1 3)
 
 abbrev pub sends_by : Row → CoordIJK → CoordIJK
 sends_by r c =

@@ -1,4 +1,6 @@
-// Coordinates on a face's grid, `CoordIJK` of the source: reducing, and the maps of document 01's table with aperture 7 CCW of document 02.
+// Coordinates on a face's grid, `CoordIJK` of the source: reducing, and the five maps of document 01's table.
+#![tactic(auto)]
+
 ghost use Rattle.std.specs.Prelude.{◌≡◌, ◌+◌, ◌*◌, ◌≤◌, max};
 ghost use Rattle.reply.specs.Replies.{verdict_number};
 ghost use Rattle.coordijk.specs.Coordinates.{coord, least, reduced, Taken, verdict_of};
@@ -6,25 +8,24 @@ ghost use Rattle.coordijk.specs.Maps.{map_of, said_mapped, map_reply};
 
 use reply::{Refusal, Verdict};
 
-#[derive(Drop)]
+#[derive(Clone, Copy)]
 pub struct CoordIJK {
     pub i: u32,
     pub j: u32,
     pub k: u32,
 }
 
-// The maps of document 01's table, a row each, and after them the one that digits ask for.
-#[derive(Drop)]
+// The maps of document 01's table, a row each.
+#[derive(Clone, Copy)]
 pub enum GridMap {
     SixthTurnCcw,
     SixthTurnCw,
     Aperture3Ccw,
     Aperture3Cw,
     Aperture7Cw,
-    Aperture7Ccw,
 }
 
-#[derive(Drop)]
+#[derive(Clone, Copy)]
 pub enum Mapped {
     Done(CoordIJK),
     Refused(Refusal),
@@ -105,8 +106,7 @@ impl CoordIJK {
         .reduce()
     }
 
-    // A map of a triple that is taken. Public for digits, which have tested theirs.
-    pub fn sent(self, map: GridMap) -> CoordIJK
+    fn sent(self, map: GridMap) -> CoordIJK
         requires { Taken self }
         ensures { result ≡ map_of map self }
     {
@@ -119,7 +119,6 @@ impl CoordIJK {
             GridMap::Aperture3Ccw => self.times_plus(2, j, k, i),
             GridMap::Aperture3Cw => self.times_plus(2, k, i, j),
             GridMap::Aperture7Cw => self.times_plus(3, k, i, j),
-            GridMap::Aperture7Ccw => self.times_plus(3, j, k, i),
         }
     }
 

@@ -1,4 +1,6 @@
 // What the rest asks of a double: its size, whether it is finite, its whole part with what is left over, and a product with a sum.
+#![tactic(auto)]
+
 ghost use Rattle.std.specs.Prelude.{◌≡◌, true, ◌-◌, ◌^◌, pos};
 ghost use Rattle.std.specs.Float.{binary64};
 ghost use Rattle.std.specs.Float.Ieee.{of_int};
@@ -6,7 +8,7 @@ ghost use Rattle.double.specs.Double.{finite, size_of, whole_of, parts_of, mul_a
 ghost use Rattle.double.specs.Sizes.{Upto};
 
 // The whole part of a number from 0 up, and what is left of the number without it.
-#[derive(Drop)]
+#[derive(Clone, Copy)]
 pub struct Parts {
     pub whole: u32,
     pub left: f64,

@@ -1,5 +1,7 @@
 // From a unit vector and a face to the point of the face's plane at a cell level: the source's `face_projection.rs` with dot products in place of
 // its trigonometry.
+#![tactic(auto)]
+
 ghost use Rattle.std.specs.Prelude.{◌≡◌, ◌/◌, ◌≤◌};
 ghost use Rattle.reply.specs.Replies.{first};
 ghost use Rattle.vec2d.specs.Points.{said_pointed};
@@ -12,7 +14,7 @@ use vec2d::{Pointed, Vec2d};
 use vec3d::{FaceAxes, Vec3d};
 
 // The part of the projection that all levels share: x0 and y0.
-#[derive(Drop)]
+#[derive(Clone, Copy)]
 pub struct FaceProjection {
     pub x0: f64,
     pub y0: f64,

@@ -1,4 +1,6 @@
 // Places on the twenty faces, `FaceIJK` of the source: reducing, turning, stepping over an edge, crossing, settling.
+#![tactic(auto)]
+
 ghost use Rattle.std.specs.Prelude.{◌≡◌, ◌<◌, ◌≤◌};
 ghost use Rattle.reply.specs.Replies.{verdict_number};
 ghost use Rattle.level.specs.Levels.{Sound, grid_of};
@@ -13,7 +15,7 @@ use coordijk::{CoordIJK, GridMap, Mapped};
 use level::{Grid, GridLevel, Gridded};
 use reply::{Refusal, Verdict};
 
-#[derive(Drop)]
+#[derive(Clone, Copy)]
 pub struct Place {
     pub face: u32,
     pub i: u32,
@@ -22,7 +24,7 @@ pub struct Place {
 }
 
 // How a crossing ended.
-#[derive(Drop)]
+#[derive(Clone, Copy)]
 pub enum Overage {
     None,
     FaceEdge,
@@ -30,39 +32,39 @@ pub enum Overage {
 }
 
 // Where a crossing ended, and how.
-#[derive(Drop)]
+#[derive(Clone, Copy)]
 pub struct Landed {
     pub place: Place,
     pub overage: Overage,
 }
 
 // Where settling ended, and after how many steps over an edge.
-#[derive(Drop)]
+#[derive(Clone, Copy)]
 pub struct Rested {
     pub place: Place,
     pub steps: u64,
 }
 
-#[derive(Drop)]
+#[derive(Clone, Copy)]
 pub enum Moved {
     Done(Place),
     Refused(Refusal),
 }
 
-#[derive(Drop)]
+#[derive(Clone, Copy)]
 pub enum Crossed {
     Done(Landed),
     Refused(Refusal),
 }
 
-#[derive(Drop)]
+#[derive(Clone, Copy)]
 pub enum Settled {
     Done(Rested),
     Refused(Refusal),
 }
 
 // Where another face lies.
-#[derive(Drop)]
+#[derive(Clone, Copy)]
 pub enum Direction {
     Itself,
     OverIJ,
@@ -71,14 +73,14 @@ pub enum Direction {
     Elsewhere,
 }
 
-#[derive(Drop)]
+#[derive(Clone, Copy)]
 pub enum Directed {
     Done(Direction),
     Refused(Refusal),
 }
 
 // What the tests of an entry on a grid leave: the grid, or the refusal.
-#[derive(Drop)]
+#[derive(Clone, Copy)]
 pub enum OnGrid {
     Fine(Grid),
     Refused(Refusal),

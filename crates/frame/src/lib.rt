@@ -1,4 +1,6 @@
 // The default frame: an icosahedron in the orientation of the public H3 library, for programs and tests.
+#![tactic(auto)]
+
 ghost use Rattle.std.specs.Prelude.{◌≡◌};
 ghost use Rattle.frame.specs.Default.{default_frame};
 

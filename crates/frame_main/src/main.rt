@@ -1,5 +1,7 @@
 // Holds the default frame to document 01: it passes, each centre is nearest to its own face, and a point just over each edge lies on the neighbour
 // that the step over this edge leads to, in the hexagon that the step gives. So the neighbours, the i-axes and the step rule agree.
+#![tactic(auto)]
+
 ghost use Rattle.std.specs.Prelude.{◌<◌};
 
 use faceijk::{Moved, Place};

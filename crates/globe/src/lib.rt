@@ -1,4 +1,6 @@
 // Boundary points on the sphere: a plane point of a face becomes a unit vector, and so does every point of a cell's boundary.
+#![tactic(auto)]
+
 ghost use Rattle.std.specs.Prelude.{◌≡◌, false, [], ◌+◌, ◌≤◌, ◌<◌};
 ghost use Rattle.level.specs.Levels.{bad_grid};
 ghost use Rattle.vec3d.specs.Frame.{bad_frame};
@@ -15,21 +17,21 @@ use reply::{Refusal, Verdict};
 use vec2d::Vec2d;
 use vec3d::{FaceAxes, Vec3d};
 
-#[derive(Drop)]
+#[derive(Clone, Copy)]
 pub enum Lifted {
     Done(Vec3d),
     Refused(Refusal),
 }
 
 // What a boundary goes round.
-#[derive(Drop)]
+#[derive(Clone, Copy)]
 pub enum Outline {
     Hexagon,
     Pentagon,
 }
 
 // A point of a boundary on the sphere. Face and mark are those of the plane point that it is the image of; at mark 0 it is unused.
-#[derive(Drop)]
+#[derive(Clone, Copy)]
 pub struct SpherePoint {
     pub face: u32,
     pub mark: u32,
@@ -39,7 +41,7 @@ pub struct SpherePoint {
 }
 
 // A count, and in the same record room for twelve points.
-#[derive(Drop)]
+#[derive(Clone, Copy)]
 pub struct SphereBoundary {
     pub refusal: Verdict,
     pub count: u32,
@@ -47,14 +49,14 @@ pub struct SphereBoundary {
 }
 
 // A vector's length.
-#[derive(Drop)]
+#[derive(Clone, Copy)]
 enum Length {
     Done(f64),
     Refused(Refusal),
 }
 
 // The image of what stands before a corner, or of the corner.
-#[derive(Drop)]
+#[derive(Clone, Copy)]
 enum Imaged {
     Nothing,
     Point(SpherePoint),

@@ -1,5 +1,7 @@
 // The C face: every entry that answers a question, as a C function. It returns the refusal's number, 0 for none, and writes its values
 // into a lent slice; on a refusal it writes nothing. A slice with fewer elements than the values gets 2. The crates `lent_..` do the work.
+#![tactic(auto)]
+
 ghost use Rattle.std.specs.Prelude.{false};
 ghost use Rattle.reply.specs.Replies.{answer};
 ghost use Rattle.level.specs.Levels.{raise_reply, grid_reply};

@@ -1,4 +1,6 @@
 // Settling in place, on a lent place, as the source has it; and the one caller that lends a place of its own, so that nobody else needs its kind of proof.
+#![tactic(auto)]
+
 ghost use Rattle.std.specs.Prelude.{◌≡◌};
 ghost use Rattle.in_place.specs.Lent.{place_after, said_stepped, steps_reply};
 
@@ -7,14 +9,14 @@ use level::GridLevel;
 use reply::Refusal;
 
 // The number of steps over an edge.
-#[derive(Drop)]
+#[derive(Clone, Copy)]
 pub enum Stepped {
     Done(u64),
     Refused(Refusal),
 }
 
 // What a lent place holds afterwards, and what is said of it.
-#[derive(Drop)]
+#[derive(Clone, Copy)]
 pub struct Lent {
     pub place: Place,
     pub answer: Stepped,

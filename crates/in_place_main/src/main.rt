@@ -1,4 +1,6 @@
 // Runs settling by value and in place on the same places, and prints both, a line each.
+#![tactic(auto)]
+
 use faceijk::{Place, Settled};
 use in_place::Stepped;
 use level::GridLevel;

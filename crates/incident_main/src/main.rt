@@ -1,4 +1,6 @@
 // The incident by name: vectors that are no unit vectors, each alone and in the middle of a batch whose other rows are right.
+#![tactic(auto)]
+
 ghost use Rattle.std.specs.Prelude.{◌<◌};
 
 use level::CellLevel;

@@ -1,4 +1,6 @@
 // What the functions of the C face share: a list of values stored into a lent slice. Public for them; each has seen before that there is room.
+#![tactic(auto)]
+
 ghost use Rattle.std.specs.Prelude.{◌≡◌, ◌+◌, ◌≤◌, length};
 ghost use Rattle.lent.specs.Lent.{stored};
 

@@ -1,5 +1,7 @@
 // What the C face does with cells: their corners and their boundaries. Each function returns the refusal's number, 0 for none, and a refusal
 // writes nothing.
+#![tactic(auto)]
+
 ghost use Rattle.std.specs.Prelude.{◌≡◌, ◌∷◌, ◌++◌, ◌≤◌, length, drop};
 ghost use Rattle.lent.specs.Lent.{Gives, at, bits_of};
 ghost use Rattle.boundary.specs.Corners.{coords_values, corners_reply};

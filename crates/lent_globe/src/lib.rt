@@ -1,5 +1,7 @@
 // What the C face does on the sphere: roots, points and boundaries. Each function returns the refusal's number, 0 for none, and a refusal writes nothing. A bad
 // frame gets 1 even where a slice is too short.
+#![tactic(auto)]
+
 ghost use Rattle.std.specs.Prelude.{◌≡◌, ◌∷◌, ◌++◌, ◌≤◌, length, drop};
 ghost use Rattle.vec2d.specs.Points.{point};
 ghost use Rattle.vec3d.specs.Frame.{bad_frame};

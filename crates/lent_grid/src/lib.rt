@@ -1,5 +1,7 @@
 // What the C face does with levels, plane points and places: grids, reducing and the maps, rounding and margins, centres, where lines meet,
 // the moves between faces, and the names of corners. Each function returns the refusal's number, 0 for none, and a refusal writes nothing.
+#![tactic(auto)]
+
 ghost use Rattle.std.specs.Prelude.{◌≡◌, false, ◌+◌, ◌≤◌, length};
 ghost use Rattle.faceijk.specs.Entries.{turn_reply, step_reply, cross_reply, settle_reply, direction_reply};
 ghost use Rattle.names.specs.Entries.{first_reply, same_reply};

@@ -1,5 +1,7 @@
 // What the C face does with a lent frame: the nearest face, a plane point, a place, a batch. Each function returns the refusal's number, 0 for none, and
 // a refusal writes nothing. A bad frame gets 1 even where a slice is too short.
+#![tactic(auto)]
+
 ghost use Rattle.std.specs.Prelude.{◌≡◌};
 ghost use Rattle.reply.specs.Choice.{pick};
 ghost use Rattle.lent.specs.Lent.{GivesFramed, GivesParts, bits_of};

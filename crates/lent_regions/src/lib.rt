@@ -1,5 +1,7 @@
 // What the C face does with region lists: one written from rows, the full check, a record, whether a place is in a list. Each function returns
 // the refusal's number, 0 for none, and a refusal writes nothing.
+#![tactic(auto)]
+
 ghost use Rattle.region.specs.Entries.{read_reply, has_reply};
 ghost use Rattle.region_check.specs.Checks.{check_reply};
 ghost use Rattle.lent.specs.Lent.{Gives, at};

@@ -1,4 +1,6 @@
 // Cell levels and grid levels, `Resolution` and `ExtendedResolution` of the source, and the sizes of a face's grid.
+#![tactic(auto)]
+
 ghost use Rattle.std.specs.Prelude.{◌≡◌, ◌≤◌};
 ghost use Rattle.reply.specs.Replies.{verdict_number};
 ghost use Rattle.level.specs.Levels.{cell_verdict, grid_verdict, unit_of, said_raised, raise_reply, said_gridded, grid_reply};
@@ -6,28 +8,28 @@ ghost use Rattle.level.specs.Levels.{cell_verdict, grid_verdict, unit_of, said_r
 use reply::{Refusal, Verdict};
 
 // A cell level is 0..15; an odd one is Class III. Any number may stand here: an entry refuses a bad one.
-#[derive(Drop)]
+#[derive(Clone, Copy)]
 pub struct CellLevel(pub u32);
 
 // A grid level is even, 0..16. Any number may stand here: an entry refuses a bad one.
-#[derive(Drop)]
+#[derive(Clone, Copy)]
 pub struct GridLevel(pub u32);
 
-#[derive(Drop)]
+#[derive(Clone, Copy)]
 pub enum Raised {
     Done(GridLevel),
     Refused(Refusal),
 }
 
 // A face's grid: its unit scale, the limit m of the coordinate sum, and whether it is a substrate grid.
-#[derive(Drop)]
+#[derive(Clone, Copy)]
 pub struct Grid {
     pub unit: u32,
     pub limit: u32,
     pub substrate: bool,
 }
 
-#[derive(Drop)]
+#[derive(Clone, Copy)]
 pub enum Gridded {
     Done(Grid),
     Refused(Refusal),

@@ -1,4 +1,6 @@
 // The place of a unit vector at a cell level, `FaceIJK::from_vec3d` of the source: one vector with what its rounding left over, or a whole batch into lent rows.
+#![tactic(auto)]
+
 ghost use Rattle.std.specs.Prelude.{◌≡◌, false, ◌+◌, ◌*◌, ◌/◌, ◌≤◌, length};
 ghost use Rattle.std.proofs.lemmas.List.Edits.{sets};
 ghost use Rattle.reply.specs.Replies.{first, refusal, reply};
@@ -18,27 +20,27 @@ use vec2d::{Leftovers, Pointed, Rounded, Vec2d};
 use vec3d::Vec3d;
 
 // A place, and the leftovers by which its hexagon was chosen.
-#[derive(Drop)]
+#[derive(Clone, Copy)]
 pub struct Spot {
     pub place: Place,
     pub left: Leftovers,
 }
 
-#[derive(Drop)]
+#[derive(Clone, Copy)]
 pub enum Located {
     Done(Spot),
     Refused(Refusal),
 }
 
 // How many rows of a batch were refused, or why the whole batch was.
-#[derive(Drop)]
+#[derive(Clone, Copy)]
 pub enum Batch {
     Done(usize),
     Refused(Refusal),
 }
 
 // A row of a batch: face, i, j, k, without the leftovers; or minus the refusal, 0, 0, 0.
-#[derive(Drop)]
+#[derive(Clone, Copy)]
 pub struct Row {
     pub face: i32,
     pub i: i32,

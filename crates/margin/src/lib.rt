@@ -1,4 +1,6 @@
 // How far a point was from the nearest border of its hexagon, by the leftovers of its rounding alone.
+#![tactic(auto)]
+
 ghost use Rattle.std.specs.Prelude.{◌≡◌, ◌*◌, ◌^◌, ◌≤◌, max};
 ghost use Rattle.double.specs.Sizes.{Upto};
 ghost use Rattle.margin.specs.Margins.{is_leftover, parts_of, gap_of, step_of, reach_in, said_margin, margin_reply};
@@ -7,7 +9,7 @@ use reply::Refusal;
 use vec2d::{Leftovers, Steps};
 
 // A margin, or why there is none.
-#[derive(Drop)]
+#[derive(Clone, Copy)]
 pub enum Margined {
     Done(f64),
     Refused(Refusal),

@@ -1,4 +1,6 @@
 // The names of a corner on a substrate grid: a point on an edge has one on each side, a face corner five.
+#![tactic(auto)]
+
 ghost use Rattle.std.specs.Prelude.{◌≡◌, true};
 ghost use Rattle.level.specs.Levels.{Sound, grid_of};
 ghost use Rattle.coordijk.specs.Coordinates.{not_reduced};
@@ -11,7 +13,7 @@ use faceijk::{Moved, OnGrid, Place};
 use level::{Grid, GridLevel, Gridded};
 use reply::{Refusal, Verdict};
 
-#[derive(Drop)]
+#[derive(Clone, Copy)]
 pub enum SameCorner {
     Yes,
     No,

@@ -1,4 +1,6 @@
 // Region lists: a file of places at one cell level, sorted, with an index at the tail. Reading a record, and whether a place is in the list.
+#![tactic(auto)]
+
 ghost use Rattle.std.specs.Prelude.{◌≡◌, false, ◌+◌, ◌-◌, ◌*◌, ◌≤◌, ◌<◌, length};
 ghost use Rattle.reply.specs.Replies.{verdict_number};
 ghost use Rattle.words.specs.Words.{word_at};
@@ -16,13 +18,13 @@ pub const TAIL: usize = 88;
 
 pub const MOST: usize = 2147483647;
 
-#[derive(Drop)]
+#[derive(Clone, Copy)]
 pub enum Recorded {
     Done(Place),
     Refused(Refusal),
 }
 
-#[derive(Drop)]
+#[derive(Clone, Copy)]
 pub enum Listed {
     Yes,
     No,

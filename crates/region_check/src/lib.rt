@@ -1,4 +1,6 @@
 // The full check of a region list: its length, its records in order, the twenty starts, the level.
+#![tactic(auto)]
+
 ghost use Rattle.std.specs.Prelude.{◌≡◌, ◌||◌, ◌+◌, ◌-◌, ◌*◌, ◌≤◌, ◌<◌, ltb, leb, eqb, length};
 ghost use Rattle.region.specs.Lists.{record_at, start_of, level_of, count_of};
 ghost use Rattle.region_check.specs.Sound.{wrong_place, follows as followsOf, sound_at, sound_to};
@@ -10,13 +12,13 @@ use level::CellLevel;
 use reply::{Refusal, Verdict};
 
 // What a list that passes says of itself.
-#[derive(Drop)]
+#[derive(Clone, Copy)]
 pub struct Facts {
     pub level: u32,
     pub count: u32,
 }
 
-#[derive(Drop)]
+#[derive(Clone, Copy)]
 pub enum Checked {
     Done(Facts),
     Refused(Refusal),

@@ -5,7 +5,7 @@ use mathlib.Core.List.{List, [], ◌∷◌}
 use Prim.Native.Nat.{ℕ, zero, suc, ◌≤◌}
 use native.Mathlib.Omega.{arith}
 use Rattle.reply.specs.declared.Refusal.{Refusal}
-use Rattle.reply.specs.declared.Refusal.TheVariants.{BadFrame, BadRows, BadFace, BadLevel, BadRange, BadNumber, OffSphere, Behind, TooFar, NotReduced, OutOfFace, NotAdjacent, NoCrossing, BadLine, BadList, BadDigits}
+use Rattle.reply.specs.declared.Refusal.TheVariants.{BadFrame, BadRows, BadFace, BadLevel, BadRange, BadNumber, OffSphere, Behind, TooFar, NotReduced, OutOfFace, NotAdjacent, NoCrossing, BadLine, BadList}
 use Rattle.reply.specs.declared.Verdict.{Verdict}
 use Rattle.reply.specs.declared.Verdict.TheVariants.{Fine, Refused}
 use Rattle.reply.specs.Choice.{pick}
@@ -60,17 +60,18 @@ stands NotAdjacent = refl
 stands NoCrossing = refl
 stands BadLine = refl
 stands BadList = refl
-stands BadDigits = refl
 
 -- .. and no two at one place
 pub same_rank : (r s : Refusal) → rank_of r ≡ rank_of s → r ≡ s
 same_rank r s e = same_number r s (sym (stands r) ∙ (ap (ranked order) e ∙ stands s))
 
 found_at : (P : Refusal → Type 0) (r : Refusal) (rs : List Reason) → Found r rs → Each (λ (x : Reason). x.applies ≡ true → P x.refusal) rs → P r
+found_at P r [] f h = elim f [ ]
 found_at P r (x ∷ rs) (here t e) h = subst P e (h.0 t)
 found_at P r (x ∷ rs) (later f) h = found_at P r rs f h.1
 
 none_found : (r : Refusal) (rs : List Reason) → Found r rs → Each (λ (x : Reason). x.applies ≡ false) rs → ⊥
+none_found r [] f h = elim f [ ]
 none_found r (x ∷ rs) (here t e) h = true≢false (sym t ∙ h.0)
 none_found r (x ∷ rs) (later f) h = none_found r rs f h.1
 

@@ -4,7 +4,7 @@ use mathlib.Core.List.{List, [], ◌∷◌}
 use Prim.Native.Nat.{ℕ, zero, suc, ◌≤◌, ◌<◌}
 use native.Mathlib.Omega.{arith}
 use Rattle.reply.specs.declared.Refusal.{Refusal}
-use Rattle.reply.specs.declared.Refusal.TheVariants.{BadFrame, BadRows, BadFace, BadLevel, BadRange, BadNumber, OffSphere, Behind, TooFar, NotReduced, OutOfFace, NotAdjacent, NoCrossing, BadLine, BadList, BadDigits}
+use Rattle.reply.specs.declared.Refusal.TheVariants.{BadFrame, BadRows, BadFace, BadLevel, BadRange, BadNumber, OffSphere, Behind, TooFar, NotReduced, OutOfFace, NotAdjacent, NoCrossing, BadLine, BadList}
 use Rattle.reply.specs.declared.Verdict.{Verdict}
 use Rattle.reply.specs.declared.Verdict.TheVariants.{Fine, Refused}
 use Rattle.reply.specs.Replies.{number_of, verdict_number}
@@ -18,7 +18,7 @@ nth (r ∷ rs) (suc n) = nth rs n
 named : ℕ → Refusal
 named =
     nth
-    (BadLine ∷ BadFrame ∷ BadRows ∷ BadFace ∷ BadLevel ∷ BadRange ∷ BadNumber ∷ OffSphere ∷ Behind ∷ TooFar ∷ NotReduced ∷ OutOfFace ∷ NotAdjacent ∷ NoCrossing ∷ BadLine ∷ BadList ∷ BadDigits ∷ [])
+    (BadLine ∷ BadFrame ∷ BadRows ∷ BadFace ∷ BadLevel ∷ BadRange ∷ BadNumber ∷ OffSphere ∷ Behind ∷ TooFar ∷ NotReduced ∷ OutOfFace ∷ NotAdjacent ∷ NoCrossing ∷ BadLine ∷ BadList ∷ [])
 
 read_back : (r : Refusal) → named (number_of r) ≡ r
 unfolding named nth
@@ -37,7 +37,6 @@ read_back NotAdjacent = refl
 read_back NoCrossing = refl
 read_back BadLine = refl
 read_back BadList = refl
-read_back BadDigits = refl
 
 pub same_number : (a b : Refusal) → number_of a ≡ number_of b → a ≡ b
 same_number a b e = sym (read_back a) ∙ (ap named e ∙ read_back b)
@@ -58,7 +57,6 @@ number_pos NotAdjacent = omega arith
 number_pos NoCrossing = omega arith
 number_pos BadLine = omega arith
 number_pos BadList = omega arith
-number_pos BadDigits = omega arith
 
 -- and none is above 18, the last that the paper's requests name
 pub number_low : (r : Refusal) → number_of r ≤ 18
@@ -77,7 +75,6 @@ number_low NotAdjacent = omega arith
 number_low NoCrossing = omega arith
 number_low BadLine = omega arith
 number_low BadList = omega arith
-number_low BadDigits = omega arith
 
 -- Two verdicts with one number are one.
 pub same_verdict : {a b : Verdict} → verdict_number a ≡ verdict_number b → a ≡ b

@@ -6,10 +6,10 @@ use Rattle.reply.specs.declared.Verdict.{Verdict}
 use Rattle.reply.specs.declared.Verdict.TheVariants.{Fine, Refused}
 use Rattle.reply.specs.Replies.{number_of, Reason}
 
--- The order of refusals, by their numbers: a line that cannot be read comes first, a bad list after bad rows and before a bad face, bad digits after coordinates that are not reduced.
--- Later requests put theirs in here: 17 after 4, 18 last.
+-- The order of refusals, by their numbers: a line that cannot be read comes first, a bad list after bad rows and before a bad face.
+-- Later requests put theirs in here: 17 after 4, 16 after 10, 18 last.
 abbrev pub order : List ℕ
-order = 14 ∷ 1 ∷ 2 ∷ 15 ∷ 3 ∷ 4 ∷ 5 ∷ 6 ∷ 7 ∷ 8 ∷ 9 ∷ 10 ∷ 16 ∷ 11 ∷ 12 ∷ 13 ∷ []
+order = 14 ∷ 1 ∷ 2 ∷ 15 ∷ 3 ∷ 4 ∷ 5 ∷ 6 ∷ 7 ∷ 8 ∷ 9 ∷ 10 ∷ 11 ∷ 12 ∷ 13 ∷ []
 
 -- how many stand before a number in a list
 abbrev pub ahead : List ℕ → ℕ → ℕ

@@ -2,11 +2,11 @@
 use Rattle.std.specs.Prelude.{Bool, List, [], ◌∷◌, ℕ, zero, suc}
 use Rattle.reply.specs.Choice.{pick}
 use Rattle.reply.specs.declared.Refusal.{Refusal}
-use Rattle.reply.specs.declared.Refusal.TheVariants.{BadFrame, BadRows, BadFace, BadLevel, BadRange, BadNumber, OffSphere, Behind, TooFar, NotReduced, OutOfFace, NotAdjacent, NoCrossing, BadLine, BadList, BadDigits}
+use Rattle.reply.specs.declared.Refusal.TheVariants.{BadFrame, BadRows, BadFace, BadLevel, BadRange, BadNumber, OffSphere, Behind, TooFar, NotReduced, OutOfFace, NotAdjacent, NoCrossing, BadLine, BadList}
 use Rattle.reply.specs.declared.Verdict.{Verdict}
 use Rattle.reply.specs.declared.Verdict.TheVariants.{Fine, Refused}
 
--- the table's first column; 17 and 18 will stand at the end
+-- the table's first column; 16 to 18 will stand at the end
 abbrev pub number_of : Refusal → ℕ
 number_of BadFrame = 1
 number_of BadRows = 2
@@ -23,7 +23,6 @@ number_of NotAdjacent = 12
 number_of NoCrossing = 13
 number_of BadLine = 14
 number_of BadList = 15
-number_of BadDigits = 16
 
 -- what the tests of an input found, in the paper's numbers: 0 for nothing
 abbrev pub verdict_number : Verdict → ℕ

@@ -1,9 +1,11 @@
 // The numbered replies of the papers: why an entry refused, and whether it did.
+#![tactic(auto)]
+
 ghost use Rattle.std.specs.Prelude.{◌≡◌};
 ghost use Rattle.reply.specs.Replies.{number_of};
 
 // One case a number. Requests that add numbers add their cases at the end, here and in `number_of`.
-#[derive(Drop)]
+#[derive(Clone, Copy)]
 pub enum Refusal {
     BadFrame,
     BadRows,
@@ -20,11 +22,10 @@ pub enum Refusal {
     NoCrossing,
     BadLine,
     BadList,
-    BadDigits,
 }
 
 // What an entry's tests found.
-#[derive(Drop)]
+#[derive(Clone, Copy)]
 pub enum Verdict {
     Fine,
     Refused(Refusal),
@@ -50,7 +51,6 @@ impl Refusal {
             Refusal::NoCrossing => 13,
             Refusal::BadLine => 14,
             Refusal::BadList => 15,
-            Refusal::BadDigits => 16,
         }
     }
 }

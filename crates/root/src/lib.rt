@@ -1,4 +1,6 @@
 // The square root of a double: the nearest double, worked out from its bits.
+#![tactic(auto)]
+
 ghost use Rattle.std.specs.Prelude.{◌≡◌, true, false, ◌+◌, ◌*◌, ◌^◌, ◌≤◌, ◌<◌};
 ghost use Rattle.std.specs.Float.{binary64};
 ghost use Rattle.std.specs.Float.Ieee.{of_bits, round};
@@ -7,21 +9,21 @@ ghost use Rattle.root.specs.AsWorked.{NearRoot, Scaling, units_of_bits, Positive
 
 use reply::Refusal;
 
-#[derive(Drop)]
+#[derive(Clone, Copy)]
 pub enum Rooted {
     Done(f64),
     Refused(Refusal),
 }
 
 // A number digits · 2^power.
-#[derive(Drop)]
+#[derive(Clone, Copy)]
 struct Scaled {
     pub digits: u64,
     pub power: u64,
 }
 
 // A root's 53 digits in two parts: high · 2^26 + low.
-#[derive(Drop)]
+#[derive(Clone, Copy)]
 struct Halves {
     pub high: u64,
     pub low: u64,

@@ -1,4 +1,6 @@
 // Bytes, words and numbers put into a lent buffer at an index: each answers the index after. The lines of `walk` and `ask` stand on them.
+#![tactic(auto)]
+
 ghost use Rattle.std.specs.Prelude.{[], ◌∷◌, ◌+◌, ◌≤◌, ◌<◌, length};
 ghost use Rattle.text.specs.Numbers.{decimal, hex, field};
 ghost use Rattle.text.specs.Writing.{PutAt};

@@ -1,4 +1,6 @@
 // Plane points, `Vec2d` of the source: rounding to a hexagon with what is left over, the centre of a hexagon, where two lines meet, and near-equality.
+#![tactic(auto)]
+
 ghost use Rattle.std.specs.Prelude.{◌≡◌, ◌≤◌, ◌<◌, ◌^◌};
 ghost use Rattle.reply.specs.Choice.{pick};
 ghost use Rattle.vec2d.specs.Points.{point, is_point, said_pointed};
@@ -11,46 +13,46 @@ ghost use Rattle.vec2d.specs.Closeness.{within, close, said_alike, alike_reply};
 use coordijk::CoordIJK;
 use reply::{Refusal, Verdict};
 
-#[derive(Drop)]
+#[derive(Clone, Copy)]
 pub struct Vec2d {
     pub x: f64,
     pub y: f64,
 }
 
-#[derive(Drop)]
+#[derive(Clone, Copy)]
 pub struct Line {
     pub from: Vec2d,
     pub to: Vec2d,
 }
 
 // What is left of a point's two coordinates without their whole parts: each at least 0 and below 1.
-#[derive(Drop)]
+#[derive(Clone, Copy)]
 pub struct Leftovers {
     pub r1: f64,
     pub r2: f64,
 }
 
 // The hexagon of a point, and the leftovers by which it was chosen.
-#[derive(Drop)]
+#[derive(Clone, Copy)]
 pub struct Found {
     pub hexagon: CoordIJK,
     pub left: Leftovers,
 }
 
-#[derive(Drop)]
+#[derive(Clone, Copy)]
 pub enum Rounded {
     Done(Found),
     Refused(Refusal),
 }
 
 // A plane point, or why there is none: the answer of the centre and of the meeting.
-#[derive(Drop)]
+#[derive(Clone, Copy)]
 pub enum Pointed {
     Done(Vec2d),
     Refused(Refusal),
 }
 
-#[derive(Drop)]
+#[derive(Clone, Copy)]
 pub enum Alike {
     Yes,
     No,
@@ -58,7 +60,7 @@ pub enum Alike {
 }
 
 // The whole parts m1, m2 of a point's two coordinates and the leftovers r1, r2.
-#[derive(Drop)]
+#[derive(Clone, Copy)]
 struct Quantized {
     pub m1: u32,
     pub m2: u32,
@@ -67,21 +69,21 @@ struct Quantized {
 }
 
 // Whether the hexagon is one past the whole part, in either coordinate. Public for the margin.
-#[derive(Drop)]
+#[derive(Clone, Copy)]
 pub struct Steps {
     pub i: bool,
     pub j: bool,
 }
 
 // A hexagon of the quarter where x and y are not below zero.
-#[derive(Drop)]
+#[derive(Clone, Copy)]
 struct Axial {
     pub i: u32,
     pub j: u32,
 }
 
 // What the meeting formula gives: its divisor, and the point.
-#[derive(Drop)]
+#[derive(Clone, Copy)]
 pub struct Crossing {
     pub divisor: f64,
     pub at: Vec2d,

@@ -1,4 +1,6 @@
 // Unit vectors, the lent frame of twenty faces, and the face that is nearest to a vector: the face choice of the source's `vec3d.rs`.
+#![tactic(auto)]
+
 ghost use Rattle.std.specs.Prelude.{◌≡◌, true, false, ℕ, ◌+◌, ◌*◌, ◌≤◌, ◌<◌, length};
 ghost use Rattle.reply.specs.declared.Verdict.TheVariants.{Fine};
 ghost use Rattle.reply.specs.Replies.{verdict_number};
@@ -10,7 +12,7 @@ ghost use Rattle.vec3d.specs.AsAsked.{narrow, loose, unfit, near_one, doubtful, 
 
 use reply::{Refusal, Verdict};
 
-#[derive(Drop)]
+#[derive(Clone, Copy)]
 pub struct Vec3d {
     pub x: f64,
     pub y: f64,
@@ -18,7 +20,7 @@ pub struct Vec3d {
 }
 
 // What the frame holds of a face: its centre, the tangent u along its i-axis, and v, u turned a quarter counterclockwise.
-#[derive(Drop)]
+#[derive(Clone, Copy)]
 pub struct FaceAxes {
     pub centre: Vec3d,
     pub u: Vec3d,
@@ -26,20 +28,20 @@ pub struct FaceAxes {
 }
 
 // A face, and the squared distance of its centre.
-#[derive(Drop)]
+#[derive(Clone, Copy)]
 pub struct Nearest {
     pub face: u32,
     pub distance: f64,
 }
 
-#[derive(Drop)]
+#[derive(Clone, Copy)]
 pub enum NearestFace {
     Done(Nearest),
     Refused(Refusal),
 }
 
 // What one look at a frame gives: whether a face is doubtful, and the nearest one.
-#[derive(Drop)]
+#[derive(Clone, Copy)]
 struct Looked {
     pub doubt: bool,
     pub nearest: Nearest,

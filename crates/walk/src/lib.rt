@@ -1,4 +1,6 @@
 // `walk`: a line that names a place, and the text of its settling, written into a lent buffer by as many whole lines as fit.
+#![tactic(auto)]
+
 ghost use Rattle.std.specs.Prelude.{◌≡◌, false, ◌-◌, ◌≤◌, ◌<◌, ltb, length};
 ghost use Rattle.level.specs.Levels.{bad_grid, limit_of};
 ghost use Rattle.faceijk.specs.Places.{sum_at};
@@ -13,7 +15,7 @@ use walk_lines::Line;
 use walk_question::{Question, Reading};
 
 // A walk on its way: the place reached, where it will rest and after how many steps, and the grid.
-#[derive(Drop)]
+#[derive(Clone, Copy)]
 pub struct Walk {
     pub place: Place,
     pub rest: Rested,
@@ -22,7 +24,7 @@ pub struct Walk {
 }
 
 // What is to be printed next: the start, the walk's further lines, a refusal, or nothing.
-#[derive(Drop)]
+#[derive(Clone, Copy)]
 pub enum State {
     Starting(Walk),
     Walking(Walk),
@@ -31,14 +33,14 @@ pub enum State {
 }
 
 // The next line of a state and the state after it.
-#[derive(Drop)]
+#[derive(Clone, Copy)]
 pub enum Step {
     Next(Line, State),
     End,
 }
 
 // The state from which to go on, and how many bytes were written.
-#[derive(Drop)]
+#[derive(Clone, Copy)]
 pub struct Written {
     pub state: State,
     pub len: usize,

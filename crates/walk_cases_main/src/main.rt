@@ -1,4 +1,6 @@
 // Runs the walk library on the inputs that document 01 and the issue name, and on malformed ones; a line with the case's name goes before each.
+#![tactic(auto)]
+
 use libc::STDOUT_FILENO;
 
 fn show(name: &[u8], input: &[u8]) -> bool {

@@ -1,4 +1,6 @@
 // The lines that `walk` prints, each written whole into a lent buffer or not at all.
+#![tactic(auto)]
+
 ghost use Rattle.std.specs.Prelude.{◌≡◌, ◌+◌, ◌≤◌, length};
 ghost use Rattle.text.specs.Writing.{PutAt, Wrote};
 ghost use Rattle.walk_lines.specs.Lines.{place_fields, place_line, rest_line, refused_line, line_text};
@@ -7,7 +9,7 @@ use faceijk::{Place, Rested};
 use reply::Refusal;
 
 // A line that `walk` may print.
-#[derive(Drop)]
+#[derive(Clone, Copy)]
 pub enum Line {
     From(Place),
     Over(Place),

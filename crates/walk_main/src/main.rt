@@ -1,4 +1,6 @@
 // Reads one line from standard input and prints the walk that it names.
+#![tactic(auto)]
+
 use libc::STDIN_FILENO;
 
 // No good line has more than 23 bytes, so that 64 decide.

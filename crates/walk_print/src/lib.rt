@@ -1,4 +1,6 @@
 // Prints the text of a walk on standard output: for the programs that read a line and for those that run recorded ones.
+#![tactic(auto)]
+
 ghost use Rattle.std.specs.Prelude.{◌≡◌, true, [], ◌++◌};
 ghost use Rattle.walk.specs.Texts.{text_of};
 

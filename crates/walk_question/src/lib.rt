@@ -1,4 +1,6 @@
 // The line that `walk` reads, taken from a lent slice of any length and any bytes.
+#![tactic(auto)]
+
 ghost use Rattle.std.specs.Prelude.{◌≡◌};
 ghost use Rattle.walk_question.specs.Reading.{Read};
 ghost use Rattle.walk_question.specs.Fields.{of_numbers};
@@ -8,14 +10,14 @@ use faceijk::Place;
 use level::GridLevel;
 
 // What a line asks: to settle a place at a grid level, plain or substrate.
-#[derive(Drop)]
+#[derive(Clone, Copy)]
 pub struct Question {
     pub place: Place,
     pub level: GridLevel,
     pub substrate: bool,
 }
 
-#[derive(Drop)]
+#[derive(Clone, Copy)]
 pub enum Reading {
     Line(Question),
     BadLine,

@@ -2,9 +2,10 @@
 use mathlib.Core.Path.{ap, ◌∙◌}
 use native.Mathlib.Omega.{arith}
 use Rattle.coordijk.specs.declared.CoordIJK.{CoordIJK}
-use Rattle.coordijk.specs.Coordinates.{reduced, Upto}
+use Rattle.coordijk.specs.Coordinates.{reduced}
 use Rattle.faceijk.specs.Places.{coord_of}
 use Rattle.boundary.specs.Corners.{shifted_by, corner_of}
+use Rattle.boundary.specs.AsWalked.{Upto}
 use Rattle.boundary.proofs.Apertures.{offset_small_of}
 use borrow.Author.Rules.{rules}
 use Rattle.boundary.proofs.Cell.corner.Statement.{statement}

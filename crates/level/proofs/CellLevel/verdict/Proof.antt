@@ -1,7 +1,0 @@
--- `CellLevel::verdict` meets its contract. Assumes nothing.
-use Rattle.reply.proofs.Tests.{tests}
-use Rattle.level.proofs.CellLevel.verdict.Statement.{statement}
-use Rattle.level.proofs.CellLevel.verdict.Tie as tie
-
-pub verdict-spec : {M : Type 1} → statement M
-verdict-spec = tie.close (tie.spec (λ c. search tests) (λ c. search tests))
