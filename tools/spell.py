@@ -56,7 +56,7 @@ def odd(name):
 
 def files(top, ends):
     for folder, dirs, names in os.walk(top):
-        dirs[:] = sorted(d for d in dirs if d not in ("out", ".git", "target"))
+        dirs[:] = sorted(d for d in dirs if not (d == "out" and os.path.basename(os.path.dirname(folder)) == "crates"))
         for n in sorted(names):
             if n.endswith(ends):
                 yield os.path.join(folder, n)

@@ -6,14 +6,13 @@ use lib.ListN.{length}
 use Rattle.text.proofs.Hexadecimals.{sixteen, hex_length}
 use Rattle.text.proofs.put_hex.Goals as goal
 
--- `put_hex` meets its contract: the digits are made apart and copied. Assumes nothing.
 pub put_word-requires : goal.put_word-requires
 put_word-requires c =
     let d = c.hex-k in
-    omega (arith, c.requires, ap length (d.ensures.1.1 ∙ sixteen d.result c.args.n (search rules) d.ensures.1.0), hex_length c.args.n)
+    omega (arith, c.requires, ap length (d.ensures.digits ∙ sixteen d.result c.args.n (search rules) d.ensures.len), hex_length c.args.n)
 
 pub returns : goal.returns
 returns c =
     let n = c.args.n in
     let d = c.hex-k in
-    rw (d.ensures.1.1 ∙ sixteen d.result n (search rules) d.ensures.1.0) at c.put_word.ensures
+    rw (d.ensures.digits ∙ sixteen d.result n (search rules) d.ensures.len) at c.put_word.ensures

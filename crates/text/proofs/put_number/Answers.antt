@@ -6,14 +6,13 @@ use lib.ListN.{length}
 use Rattle.text.proofs.Decimals.{spelt, short20}
 use Rattle.text.proofs.put_number.Goals as goal
 
--- `put_number` meets its contract: the digits are made apart and copied. Assumes nothing.
 pub put_word-requires : goal.put_word-requires
 put_word-requires c =
     let d = c.decimal-k in
-    omega (arith, c.requires, ap length (d.ensures.1.1 ∙ spelt d.result c.args.n d.ensures.1.0), short20 c.args.n (search rules))
+    omega (arith, c.requires, ap length (d.ensures.digits ∙ spelt d.result c.args.n d.ensures.len), short20 c.args.n (search rules))
 
 pub returns : goal.returns
 returns c =
     let n = c.args.n in
     let d = c.decimal-k in
-    rw (d.ensures.1.1 ∙ spelt d.result n d.ensures.1.0) at c.put_word.ensures
+    rw (d.ensures.digits ∙ spelt d.result n d.ensures.len) at c.put_word.ensures

@@ -42,9 +42,6 @@ loop-i-preserved c =
 pub overflow_add-result : goal.overflow_add-result
 overflow_add-result c = omega arith
 
-pub same-length : goal.same-length
-same-length c = omega arith
-
 pub returns : goal.returns
 returns c =
     let l = c.loop-i in

@@ -10,8 +10,7 @@ use lib.Ieee.Back.{unsigned_back}
 use Rattle.double.specs.Double.{whole_of}
 use Rattle.double.specs.Sizes.{Upto}
 use Rattle.double.proofs.Nonnegative.{whole_le}
-use Rattle.double.proofs.split.Statement.{statement}
-use Rattle.double.proofs.split.Tie as tie
+use Rattle.double.proofs.split.Goals as goal
 
 -- The whole part as a double fits a u32 and casts back to itself.
 back : (x : Float) → Upto (2 ^ 32 - 1) x → T (in_unsigned binary64 32 (of_int binary64 (pos (whole_of x)))) × (to_unsigned 32 (of_int binary64 (pos (whole_of x))) ≡ whole_of x)
@@ -20,11 +19,8 @@ back x p =
     let top = whole_le (2 ^ 32 - 1) x p in
     unsigned_back binary64 32 (whole_of x) (le→leb (whole_of x) (2 ^ 53) (omega arith)) (omega arith)
 
-float-to-int-t3 : tie.Need-float-to-int-t3
-float-to-int-t3 c = rw c.before.floor.ensures (back c.before.before.args.x c.before.before.requires).0
+pub float_to_int-result : goal.float_to_int-result
+float_to_int-result c = rw c.floor-whole.ensures (back c.args.x c.requires).0
 
-returns : tie.Need-returns
-returns c = rw (c.before.floor.ensures, (back c.before.before.args.x c.before.before.requires).1)
-
-pub split-spec : {M : Type 1} → statement M
-split-spec = tie.close (tie.spec (λ c κs. search rules) float-to-int-t3 returns)
+pub returns : goal.returns
+returns c = rw (c.floor-whole.ensures, (back c.args.x c.requires).1)

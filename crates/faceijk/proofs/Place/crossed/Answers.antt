@@ -1,0 +1,28 @@
+-- `Place::crossed` meets its contract: each return is a case of a crossing. Assumes nothing.
+use borrow.Author.Rules.{rules}
+use mathlib.Core.Path.{◌≡◌, ◌∙◌, sym}
+use native.Mathlib.Omega.{arith}
+use Rattle.faceijk.proofs.Crossing.{stays_on_edge, stays, goes}
+use Rattle.faceijk.proofs.Place.crossed.Goals as goal
+
+pub returns-then-on_edge : goal.returns-then-on_edge
+returns-then-on_edge c = c.landing.ensures ∙ stays_on_edge _ _ _ _ c.on_edge.ensures c.if-on_edge.true
+
+pub returns-then-on_edge-2 : goal.returns-then-on_edge-2
+returns-then-on_edge-2 c =
+    c.landing-then-on_edge-2.ensures ∙
+    goes _ _ _ _ c.on_edge.ensures
+    c.if-on_edge.false (omega arith) _ _ c.out-next.ensures
+    (sym c.if-on_edge-2.true ∙ c.on_edge-then-grid-sum.ensures)
+
+pub returns-then-grid-sum : goal.returns-then-grid-sum
+returns-then-grid-sum c =
+    c.landing-then-grid-sum.ensures ∙
+    goes _ _ _ _ c.on_edge.ensures
+    c.if-on_edge.false (omega arith) _ _ c.out-next.ensures
+    (sym c.if-on_edge-2.false ∙ c.on_edge-then-grid-sum.ensures)
+
+pub returns : goal.returns
+returns c =
+    c.landing-2.ensures ∙
+    stays _ _ _ _ c.on_edge.ensures c.if-on_edge.false (omega arith)

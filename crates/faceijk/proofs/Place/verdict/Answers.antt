@@ -1,0 +1,12 @@
+-- `Place::verdict` meets its contract: the face is tested, then the coordinates. Assumes nothing.
+use borrow.Author.Rules.{rules}
+use borrow.Author.Tests.{le-ltb}
+use mathlib.Core.Path.{◌∙◌, ap}
+use Rattle.reply.proofs.Tests.{tests}
+use Rattle.reply.specs.Replies.{verdict_number}
+use Rattle.coordijk.specs.declared.CoordIJK.{CoordIJK}
+use Rattle.coordijk.specs.Coordinates.{verdict_of}
+use Rattle.faceijk.proofs.Place.verdict.Goals as goal
+
+pub returns : goal.returns
+returns c = simp (le-ltb _ _ c.if-self-gt-LAST_FACE.false) (c.verdict.ensures ∙ ap (λ (d : CoordIJK). verdict_number (verdict_of d)) c.coord.ensures)
