@@ -248,9 +248,9 @@ module _ (g : Grid) (sound : Sound g) where
 
   pub differ : {p : Place} → Kind g p → (i j : ℕ) → i < j → j ≤ others g p → (name_at i g p).face ≡ (name_at j g p).face → ⊥
   unfolding name_at
-  differ k zero j l u q = away k j l u (sym q)
-  differ k (suc i) zero l u q = omega arith
-  differ k (suc i) (suc j) l u q = differ (next_kind k) i j (omega arith) (omega (arith, others_next k)) q
+  differ {p} k zero j l u q = away k j l u (sym q)
+  differ {p} k (suc i) zero l u q = omega arith
+  differ {p} k (suc i) (suc j) l u q = differ {p = next_name g p} (next_kind k) i j (omega arith) (omega (arith, others_next k)) q
 
   -- one name a face
   pub one_a_face : {p q r : Place} → Kind g p → Along g p q → Along g p r → q.face ≡ r.face → q ≡ r
