@@ -1,7 +1,7 @@
 /*
  * Heddleplume: which hexagon of which face of the icosahedron a place on Earth lies in, the border of that hexagon, and how near to it the
  * place was.
- * C99, usable from C++. Link with target/staticlib/libheddleplume.a (x86-64), which `rt staticlib heddleplume` writes;
+ * C99, usable from C++. Link with target/staticlib/libheddleplume.a (x86-64), which `bindings/library` makes;
  * it needs no library but C's own.
  *
  * What holds for every function here:

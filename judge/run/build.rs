@@ -1,4 +1,4 @@
-// Links the proved library that `rt staticlib heddleplume` writes.
+// Links the proved library that `bindings/library` makes.
 fn main() {
     let root = format!("{}/../..", std::env::var("CARGO_MANIFEST_DIR").unwrap());
     println!("cargo:rustc-link-search=native={root}/target/staticlib");
