@@ -4,8 +4,7 @@ use mathlib.Core.Bool.{Bool, true, false, not, ◌&&◌, ◌||◌}
 use Rattle.reply.specs.Choice.{pick}
 use Rattle.vec2d.specs.declared.Steps.{Steps}
 use Rattle.vec2d.specs.Rounding.{steps}
-use Rattle.vec2d.proofs.Steps.either.Statement.{statement}
-use Rattle.vec2d.proofs.Steps.either.Tie as tie
+use Rattle.vec2d.proofs.Steps.either.Goals as goal
 
 or-false : (x : Bool) → (x || false) ≡ x
 or-false true = refl
@@ -15,8 +14,5 @@ sums : (t : Bool) (a b : Steps) → steps ((t && a.i) || (not t && b.i)) ((t && 
 sums true a b = λ n. steps (or-false a.i n) (or-false a.j n)
 sums false a b = refl
 
-returns : tie.Need-returns
-returns c = let a = c.before.before.before.before.args in sums a.yes a.a a.b
-
-pub either-spec : {M : Type 1} → statement M
-either-spec = tie.close (tie.spec returns)
+pub returns : goal.returns
+returns c = let a = c.args in sums a.yes a.a a.b
