@@ -15,7 +15,7 @@ use borrow.Author.Tests.{ltb-true}
 use borrow.Author.Rules.{part_to_end}
 use lib.Ieee.{binary64, of_int, div, in_float}
 use Rattle.reply.specs.Choice.{pick}
-use Rattle.bytes.specs.Bytes.{index_of, slice}
+use Rattle.ask_read.specs.Scan.{index_of, slice}
 use Rattle.ask_read.specs.declared.Digits.{Digits}
 use Rattle.ask_read.specs.Words.{none, spelt, plain, real, bad, decimal_from, unsigned_field}
 use Rattle.reply.proofs.Entries.{both}
@@ -48,7 +48,6 @@ digits_small s t h = omega (arith, spelt_room 10 (spelt 10 none s) t (10 ^ 15) (
 -- ---- the parts
 
 pub found : (w : List ℕ) (p : ℕ) → p ≡ 0 + index_of 46 (slice 0 (length w) w) → p ≡ index_of 46 w
-unfolding slice
 found w p e = e ∙ (zero-add (index_of 46 (take (length w) w)) ∙ ap (index_of 46) (take-length w))
 
 -- a point at p, or none and p at the end, and the digits after it from f on

@@ -5,7 +5,7 @@ use Prim.Native.Nat.{ℕ}
 use Prim.Native.String.{String}
 use lib.ListN.{replicate}
 use lib.Ieee.{Float, binary64, of_bits, round, neg}
-use Rattle.bytes.specs.Bytes.{index_of}
+use Rattle.ask_read.specs.Scan.{index_of}
 use Rattle.double.specs.Double.{nought}
 use Rattle.ask_read.specs.Words.{digit_of, with_digit, spelt, plain, number_from, number_field, decimal_from, unsigned_field, decimal_field, bits_of, double_field, same, flag_field}
 use Rattle.ask_read.specs.declared.Asked.TheVariants.{Round, Cross, Same, Root, Sphere, Globe5, First, Help}

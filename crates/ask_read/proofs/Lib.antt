@@ -1,4 +1,5 @@
 -- Laws of `ask_read`: digits and the room they need, numbers in decimal, patterns of doubles, decimals; a line split at its spaces, its fields one by one.
+pub mod Scanning
 pub mod Spelling
 pub mod Patterns
 pub mod Decimals

@@ -10,7 +10,7 @@ use lib.ListN.{length, take, drop, drop_of_length-le, length-take, get_or-eq_def
 use lib.Seq.{drop-cons}
 use borrow.Author.Tests.{eqb-true}
 use Rattle.reply.specs.Text.{text}
-use Rattle.bytes.specs.Bytes.{index_of, slice}
+use Rattle.ask_read.specs.Scan.{index_of, slice}
 use Rattle.level.proofs.Computed.{all, at}
 use Rattle.ask_read.specs.declared.Asked.TheVariants.{Unreadable}
 use Rattle.ask_read.specs.Words.{same}
@@ -50,11 +50,11 @@ is_true true t = refl
 is_true false t = absurd t
 
 names_fit : T (all (fits (λ (r : Row). r.name) 9 name_table) 20)
-unfolding same index_of slice row_at
+unfolding same index_of row_at
 names_fit = tt
 
 kinds_fit : T (all (fits (λ (r : Row). r.kinds) 9 kind_table) 21)
-unfolding same index_of slice row_at
+unfolding same index_of row_at
 kinds_fit = tt
 
 pub name_at : (n : ℕ) → n < 20 → cell 9 name_table n ≡ (row_at n).name

@@ -11,7 +11,7 @@ use lib.ListN.{length, take, drop, length-drop}
 use lib.Seq.{take-length, drop-drop}
 use borrow.Author.Tests.{lt-ltb, le-ltb, le-leb, lt-leb, eqb-true, ne_eqb}
 use Rattle.reply.specs.Choice.{pick}
-use Rattle.bytes.specs.Bytes.{index_after, index_of, slice}
+use Rattle.ask_read.specs.Scan.{index_after, index_of, slice}
 use Rattle.ask_read.specs.Questions.{onto, words, words_from, bare}
 use Rattle.text.specs.Numbers.{decimal, digit}
 use Rattle.text.proofs.Decimals.{small, large}
@@ -22,7 +22,6 @@ behind i bs = pick (ltb i (length bs)) (words (drop (suc i) bs)) []
 
 -- one byte more in front: a space, or the first word's
 in_front : (b : ℕ) (bs : List ℕ) (i : ℕ) (t : Bool) → words bs ≡ take i bs ∷ behind i bs → pick t ([] ∷ words bs) (onto b (words bs)) ≡ take (index_after t i) (b ∷ bs) ∷ behind (index_after t i) (b ∷ bs)
-unfolding index_after
 in_front b bs i true e = rw (lt-ltb 0 (suc (length bs)) (omega arith))
 in_front b bs i false e = rw (leb-suc-suc (suc i) (length bs)) (ap (onto b) e)
 
@@ -44,7 +43,6 @@ behind_from line at i end h e =
     ]
 
 part : (line : List ℕ) (at : ℕ) → slice at (length line) line ≡ drop at line
-unfolding slice
 part line at = ap (drop at) (take-length line)
 
 -- the word at an index within the line, and those behind it

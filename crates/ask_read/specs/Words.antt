@@ -4,7 +4,7 @@ use Rattle.std.specs.Float.{binary64}
 use Rattle.std.specs.Float.Ieee.{of_bits, round, neg}
 use Rattle.reply.specs.Choice.{pick}
 use Rattle.double.specs.Double.{nought}
-use Rattle.bytes.specs.Bytes.{index_of}
+use Rattle.ask_read.specs.Scan.{index_of}
 use Rattle.ask_read.specs.declared.Digits.{Digits}
 use Rattle.ask_read.specs.declared.Field.{Field}
 

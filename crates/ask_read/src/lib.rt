@@ -4,6 +4,7 @@
 ghost use Rattle.std.specs.Prelude.{◌≡◌, ◌+◌, ◌*◌, ◌^◌, ◌≤◌, ◌<◌, length, get_or, take, eqb};
 ghost use Rattle.std.specs.Float.{binary64};
 ghost use Rattle.std.specs.Float.Ieee.{of_bits};
+ghost use Rattle.ask_read.specs.Scan.{slice, index_of};
 ghost use Rattle.ask_read.specs.Words.{digit_of, with_digit, spelt, plain, numeric, real, bad, number_from, number_field, decimal_from, unsigned_field, negated, decimal_field, bits_of, double_field, same, flag_field};
 ghost use Rattle.ask_read.specs.Questions.{rows, row_of, row_at, field_of, blank, unreadable, first_field, others, filled, filled_by, question_of, settle_of, words_from, bare};
 
@@ -20,6 +21,21 @@ pub struct Field {
 struct Digits {
     pub value: u64,
     pub good: bool,
+}
+
+// The first index from `from` up to `end` at which a byte stands, or `end` where there is none.
+pub fn find(s: &[u8], from: usize, end: usize, b: u8) -> usize
+    requires { (from ≤ end) × (end ≤ length s.now) }
+    ensures { (result ≡ from + index_of b (slice from end s.now)) × (result ≤ end) }
+{
+    let mut i = from;
+    while i < end {
+        if s[i] == b {
+            return i;
+        }
+        i += 1;
+    }
+    i
 }
 
 fn digit(b: u8) -> u64
@@ -172,7 +188,7 @@ fn unsigned(s: &[u8]) -> Field
     ensures { result ≡ unsigned_field s.now }
 {
     let len = s.len();
-    let point = bytes::scan::find(s, 0, len, b'.');
+    let point = find(s, 0, len, b'.');
     let from = after(point, len);
     let shaped = is_plain(&s[..point]);
     if shaped & (point + 1 != len) & (point + (len - from) < 16) {
@@ -355,7 +371,7 @@ fn take_field(kind: u8, line: &[u8], at: usize) -> Taken
         let field = not_good();
         return Taken { field, next: at };
     }
-    let end = bytes::scan::find(line, at, len, b' ');
+    let end = find(line, at, len, b' ');
     let field = field_of(kind, &line[at..end]);
     Taken {
         field,
@@ -401,7 +417,7 @@ fn row_of(word: &[u8]) -> usize
         b"round    centre   meet     turn     step     cross    settle   directionsame     nearest  place    corners  hexagon  pentagon root     sphere   globe6   globe5   first    help     ";
     let mut n = 0;
     while n < 20 {
-        let end = bytes::scan::find(names, 9 * n, 9 * n + 9, b' ');
+        let end = find(names, 9 * n, 9 * n + 9, b' ');
         if is_same(word, &names[9 * n..end]) {
             return n;
         }
@@ -444,7 +460,7 @@ fn fill_row(row: usize, line: &[u8], from: usize) -> Question
 {
     let kinds: &[u8] =
         b"xx       nnn      xxxxxxxx nnnnc    nnpnnnn  nnpnnny  nnpnnn   nn       nnnnnnnnnxxx      nxxx     nnnnn    nnnnnnn  nnnnnnn  x        nnxx     nnnnnnn  nnnnnnn  nnnnn                      ";
-    let end = bytes::scan::find(kinds, 9 * row, 9 * row + 9, b' ');
+    let end = find(kinds, 9 * row, 9 * row + 9, b' ');
     let asked = asked_at(row);
     fill(asked, &kinds[9 * row..end], line, from)
 }
@@ -454,7 +470,7 @@ pub fn read_question(line: &[u8]) -> Question
     ensures { result ≡ question_of line.now }
 {
     let len = line.len();
-    let end = bytes::scan::find(line, 0, len, b' ');
+    let end = find(line, 0, len, b' ');
     let row = row_of(&line[..end]);
     fill_row(row, line, end + 1)
 }

@@ -1,0 +1,6 @@
+-- `read_settle` meets its contract: all words of the line are fields. Assumes nothing.
+use Rattle.ask_read.proofs.Splitting.{all_words}
+use Rattle.ask_read.proofs.read_settle.Goals as goal
+
+pub returns : goal.returns
+returns c = rw (← (all_words c.args.line.now)) c.fill_row.ensures
