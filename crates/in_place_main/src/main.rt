@@ -4,7 +4,8 @@
 use faceijk::{Place, Settled};
 use in_place::Stepped;
 use level::GridLevel;
-use libc::STDOUT_FILENO;
+
+const STDOUT_FILENO: i32 = 1;
 
 fn print_place(p: Place) {
     io::print_decimal(STDOUT_FILENO, p.face as u64);
