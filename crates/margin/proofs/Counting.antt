@@ -1,5 +1,5 @@
 -- A leftover is a number below 1 in size, so that its 2^51sts can be counted, and every way towards a neighbour is a double. Assumes nothing.
-use Rattle.std.proofs.Common.{◌≡◌, ℕ, ◌+◌, ◌*◌, ◌^◌, ◌<◌, ◌≤◌, max, Bool, true, false, not, ◌&&◌, T, ltb, pos, ◌-ℤ◌, refl, ap, ◌∙◌, arith, lit≤, le→leb, ltb→lt, lt→ltb, nltb→le}
+use Rattle.std.proofs.Common.{◌≡◌, ℕ, ◌+◌, ◌*◌, ◌^◌, ◌<◌, ◌≤◌, max, Bool, true, false, not, ◌&&◌, T, pos, ◌-ℤ◌, refl, ap, ◌∙◌, arith, lit≤, le→leb, ltb→lt, lt→ltb, nltb→le}
 use mathlib.Core.Bool.{false≢true}
 use borrow.Author.Tests.{not-false}
 use lib.Ieee.{Float, nan, inf, fin, binary64, of_bits, up, down, round, sub, mul, lt, le, of_int, in_float}

@@ -1,5 +1,5 @@
 -- A margin is exactly the whole number of 2^52nds that its definition names: nothing is rounded. Assumes nothing.
-use Rattle.std.proofs.Common.{◌≡◌, ℕ, suc, ◌+◌, ◌-◌, ◌*◌, ◌^◌, ◌<◌, ◌≤◌, Bool, true, false, ℤ, pos, negsuc, ◌-ℤ◌, nat_abs, sym, refl, lt_of_lt_of_le, mul_assoc, arith, lit<, lit≤, shl_lt}
+use Rattle.std.proofs.Common.{◌≡◌, ℕ, suc, ◌+◌, ◌*◌, ◌^◌, ◌<◌, ◌≤◌, Bool, true, false, ℤ, pos, negsuc, ◌-ℤ◌, nat_abs, sym, refl, lt_of_lt_of_le, mul_assoc, arith, lit<, lit≤, shl_lt}
 use lib.Ieee.{Float, nan, inf, fin, binary64, up, down, unlike, of_bits, of_int, round, div}
 use lib.Ieee.Fits.{down_pos}
 use lib.Ieee.Exact.{HasValue, round_exact}

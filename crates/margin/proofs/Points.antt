@@ -1,15 +1,13 @@
 -- How true every margin is that is answered: above -(2^-41 + 2^-51), and that of the exact leftovers but for less than 2^-51. And no point that rounding
 -- accepts is refused one. Assumes nothing.
-use Rattle.std.proofs.Common.{◌≡◌, ℕ, ◌+◌, ◌*◌, ◌^◌, ◌<◌, true, false, not, T, refl, mul_comm, mul-lt-mul_of_pos_right}
+use Rattle.std.proofs.Common.{◌≡◌, ℕ, ◌+◌, ◌*◌, ◌^◌, ◌<◌, true, false, T, refl, mul_comm, mul-lt-mul_of_pos_right}
 use mathlib.Core.Bool.{false≢true}
 use lib.Ieee.{Float, nan, inf, fin, binary64, fits}
 use lib.Ieee.Positive.{num, den, den_pos}
 use Rattle.reply.specs.declared.Verdict.TheVariants.{Fine}
-use Rattle.reply.proofs.Entries.{both}
 use Rattle.double.specs.Double.{finite, size_of}
 use Rattle.double.proofs.Left.{InUnit, over}
 use Rattle.double.proofs.Sign.{fits_size}
-use Rattle.double.proofs.Tests.{holds}
 use Rattle.vec2d.specs.declared.Vec2d.{Vec2d}
 use Rattle.vec2d.specs.declared.Leftovers.{Leftovers}
 use Rattle.vec2d.specs.Rounding.{round_verdict, x1_of, x2_of, quantized_of, steps_of, leftovers_of}
