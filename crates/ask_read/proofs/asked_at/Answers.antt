@@ -1,14 +1,8 @@
 -- `asked_at` meets its contract: row by row. Assumes nothing.
-use mathlib.Core.Path.{◌≡◌}
-use Prim.Native.Nat.{ℕ, ◌+◌, ◌≤◌}
 use native.Mathlib.Omega.{arith}
 use Rattle.ask_read.specs.Questions.{row_at}
 use Rattle.ask_read.proofs.Rows.{no_more}
 use Rattle.ask_read.proofs.asked_at.Goals as goal
-
--- a number that is no row's lies past them
-above : (n k : ℕ) → k ≤ n → (n ≡ k → ⊥) → k + 1 ≤ n
-above n k h e = omega arith
 
 pub returns-in-0 : goal.returns-in-0
 unfolding row_at
@@ -91,7 +85,4 @@ unfolding row_at
 returns-in-19 c = rw c.in-19.is
 
 pub returns-in_default : goal.returns-in_default
-returns-in_default c =
-    let m = c.in_default.in_default-own.rest in
-    let n = c.args.row in
-    rw (no_more n (above n 19 (above n 18 (above n 17 (above n 16 (above n 15 (above n 14 (above n 13 (above n 12 (above n 11 (above n 10 (above n 9 (above n 8 (above n 7 (above n 6 (above n 5 (above n 4 (above n 3 (above n 2 (above n 1 (above n 0 (omega arith) m.0.0.0.0.0.0.0.0.0.0.0.0.0.0.0.0.0.0.0.1) m.0.0.0.0.0.0.0.0.0.0.0.0.0.0.0.0.0.0.1) m.0.0.0.0.0.0.0.0.0.0.0.0.0.0.0.0.0.1) m.0.0.0.0.0.0.0.0.0.0.0.0.0.0.0.0.1) m.0.0.0.0.0.0.0.0.0.0.0.0.0.0.0.1) m.0.0.0.0.0.0.0.0.0.0.0.0.0.0.1) m.0.0.0.0.0.0.0.0.0.0.0.0.0.1) m.0.0.0.0.0.0.0.0.0.0.0.0.1) m.0.0.0.0.0.0.0.0.0.0.0.1) m.0.0.0.0.0.0.0.0.0.0.1) m.0.0.0.0.0.0.0.0.0.1) m.0.0.0.0.0.0.0.0.1) m.0.0.0.0.0.0.0.1) m.0.0.0.0.0.0.1) m.0.0.0.0.0.1) m.0.0.0.0.1) m.0.0.0.1) m.0.0.1) m.0.1) m.1))
+returns-in_default c = rw (no_more c.args.row (omega arith))
