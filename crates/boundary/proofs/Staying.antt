@@ -8,7 +8,6 @@ use borrow.Author.Tests.{ne_eqb}
 use Rattle.reply.specs.Choice.{pick}
 use Rattle.level.specs.declared.Grid.{Grid}
 use Rattle.faceijk.specs.declared.Place.{Place}
-use Rattle.faceijk.specs.declared.Landed.{Landed}
 use Rattle.faceijk.specs.declared.Rested.{Rested}
 use Rattle.faceijk.specs.declared.Overage.TheVariants.{None}
 use Rattle.faceijk.specs.Places.{sum_at, QAt}
