@@ -11,7 +11,7 @@ use Rattle.reply.specs.declared.Verdict.{Verdict}
 use Rattle.reply.specs.declared.Verdict.TheVariants.{Fine, Refused as Found}
 use Rattle.reply.specs.declared.Refusal.{Refusal}
 use Rattle.reply.specs.declared.Refusal.TheVariants.{BadFrame, BadFace, BadLevel, Behind}
-use Rattle.reply.specs.Replies.{Reply, Reason, when, first, refusal, reply}
+use Rattle.reply.specs.Replies.{Reason, when, first, refusal, reply}
 use Rattle.reply.proofs.Entries.{passed, refuses}
 use Rattle.level.specs.Levels.{bad_cell}
 use Rattle.vec2d.specs.declared.Pointed.TheVariants.{Done, Refused}
