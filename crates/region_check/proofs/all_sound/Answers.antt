@@ -1,0 +1,19 @@
+-- `all_sound` meets its contract: the records so far stand in order. Assumes nothing.
+use mathlib.Core.Path.{◌≡◌, refl, sym, ◌∙◌}
+use native.Mathlib.Omega.{arith}
+use Rattle.region.specs.Places.{all_to}
+use Rattle.region.proofs.Every.{all_more, all_fails}
+use Rattle.region_check.proofs.all_sound.Goals as goal
+
+pub loop-n-init : goal.loop-n-init
+unfolding all_to
+loop-n-init c = (omega arith, refl)
+
+pub returns : goal.returns
+returns c = let e : c.loop-n.n ≡ c.args.count = omega arith in rw (← e) (sym c.loop-n.invariant.1)
+
+pub loop-n-preserved : goal.loop-n-preserved
+loop-n-preserved c = (omega arith, all_more _ _ c.loop-n.invariant.1 (sym c.sound_at.ensures ∙ c.if-not-sound_at.false))
+
+pub returns-then-not-sound_at : goal.returns-then-not-sound_at
+returns-then-not-sound_at c = sym (all_fails _ _ _ c.loop-n-test.true (sym c.sound_at.ensures ∙ c.if-not-sound_at.true))
