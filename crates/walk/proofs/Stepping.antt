@@ -14,7 +14,6 @@ use Rattle.faceijk.specs.Places.{sum_at, on_grid_verdict}
 use Rattle.faceijk.specs.Crossing.{step_out, crossing_of}
 use Rattle.faceijk.proofs.Taking.{accepted, sound_at, okay_on_grid}
 use Rattle.faceijk.proofs.Settling.{okay_out}
-use Rattle.walk_lines.specs.declared.Line.{Line}
 use Rattle.walk_lines.specs.Lines.{place_line, over_word, from_word, rest_line, refused_line, line_text}
 use Rattle.walk_question.specs.declared.Question.{Question}
 use Rattle.walk_question.specs.declared.Reading.{Reading}

@@ -1,0 +1,15 @@
+-- `walking_step` meets its contract: by what crossing answers, and whether it was a step. Assumes nothing.
+use Rattle.walk.proofs.Meeting.{over_step, rest_step, refused_step}
+use Rattle.walk.proofs.walking_step.Goals as goal
+
+pub returns-then-is_beyond : goal.returns-then-is_beyond
+returns-then-is_beyond c =
+    over_step c.args.w _ c.in-Done.is c.cross-crossed.ensures c.is_beyond.ensures c.if-is_beyond.true
+
+pub returns-else-is_beyond : goal.returns-else-is_beyond
+returns-else-is_beyond c =
+    rest_step c.args.w _ c.in-Done.is c.cross-crossed.ensures c.is_beyond.ensures c.if-is_beyond.false
+
+pub returns-in-Refused : goal.returns-in-Refused
+returns-in-Refused c =
+    refused_step c.args.w c.in-Refused.is c.cross-crossed.ensures
