@@ -4,8 +4,7 @@ use native.Mathlib.Omega.{arith}
 use Rattle.faceijk.specs.declared.Place.{Place}
 use Rattle.faceijk.specs.Places.{Okay}
 use Rattle.locate.proofs.Signed.{seen}
-use Rattle.locate.proofs.Row.of_place.Statement.{statement}
-use Rattle.locate.proofs.Row.of_place.Tie as tie
+use Rattle.locate.proofs.Row.of_place.Goals as goal
 
 record Small (p : Place) : Type 0 where
   face : p.face < 2 ^ 31
@@ -19,18 +18,8 @@ small p o =
     let on = o.on in
     record { face = omega arith; i = omega arith; j = omega arith; k = omega arith }
 
-returns : tie.Need-returns
+pub returns : goal.returns
 returns c =
-    let p = c.before.before.before.before.args.p in
-    let s = small p c.before.before.before.before.requires in
+    let p = c.args.p in
+    let s = small p c.requires in
     rw (seen p.face s.face, seen p.i s.i, seen p.j s.j, seen p.k s.k)
-
-pub of-place-spec : {M : Type 1} → statement M
-of-place-spec =
-    tie.close
-    (tie.spec
-    (λ c. record { sfits = (small _ c.before.requires).face })
-    (λ c. record { sfits = (small _ c.before.before.requires).i })
-    (λ c. record { sfits = (small _ c.before.before.before.requires).j })
-    (λ c. record { sfits = (small _ c.before.before.before.before.requires).k })
-    returns)

@@ -5,18 +5,14 @@ use native.Mathlib.Omega.{arith}
 use borrow.Author.Tests.{lt-ltb}
 use Rattle.locate.specs.Batch.{bad_rows}
 use Rattle.words.proofs.Placing.{ltb_shift}
-use Rattle.locate.proofs.bad_rows.Statement.{statement}
-use Rattle.locate.proofs.bad_rows.Tie as tie
+use Rattle.locate.proofs.bad_rows.Goals as goal
 
-returns : tie.Need-returns
+pub returns-then-rows-start : goal.returns-then-rows-start
 unfolding bad_rows
-returns c =
-    let a = c.before.args in
+returns-then-rows-start c =
+    let a = c.args in
     rw (lt-ltb (a.outs / 4) (a.start + a.ins / 3) (omega arith), or-true)
 
-returns-2 : tie.Need-returns-2
+pub returns : goal.returns
 unfolding bad_rows
-returns-2 c = rw (ltb_shift _ _ _ c.if1.false)
-
-pub bad-rows-spec : {M : Type 1} → statement M
-bad-rows-spec = tie.close (tie.spec returns returns-2)
+returns c = rw (ltb_shift _ _ _ c.if-rows-start.false)

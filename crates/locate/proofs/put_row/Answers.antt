@@ -5,25 +5,16 @@ use Prim.Native.Nat.{suc, ◌+◌}
 use native.Mathlib.Numerals.{add-one}
 use native.Mathlib.Omega.{arith}
 use lib.IntN.{ℤ}
-use lib.ListN.{length-set}
 use mir.Syntax.{w32}
 use mir.Val.{SFits, to_z, of_z}
 use mir.ValLaws.{to_z-of_z}
-use Rattle.locate.proofs.put_row.Statement.{statement}
-use Rattle.locate.proofs.put_row.Tie as tie
+use Rattle.locate.proofs.put_row.Goals as goal
 
-returns : tie.Need-returns
+pub returns : goal.returns
 returns c =
-    let at = c.before.before.before.before.args.at in
-    let r = c.before.before.before.before.args.row in
+    let at = c.args.at in
+    let r = c.args.row in
     let e2 : at + 2 ≡ suc (suc at) = omega arith in
     let e3 : at + 3 ≡ suc (suc (suc at)) = omega arith in
     let read : (z : ℤ) → SFits w32 z → to_z w32 (of_z w32 z) ≡ z = to_z-of_z w32 in
     rw (add-one, e2, e3, read r.face (search rules), read r.i (search rules), read r.j (search rules), read r.k (search rules))
-
-pub put-row-spec : {M : Type 1} → statement M
-put-row-spec =
-    tie.close
-    (tie.spec (λ c. search rules) (λ c. search rules) (λ c. search rules) (λ c. search rules) (λ c. simp length-set (omega arith))
-    (λ c. search rules) (λ c. search rules) (λ c. simp length-set (omega arith)) (λ c. search rules) (λ c. search rules)
-    (λ c. simp length-set (omega arith)) (λ c. search rules) returns)
