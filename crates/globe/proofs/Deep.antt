@@ -1,12 +1,12 @@
 -- A hexagon deep inside its face, on the sphere: its corners are all that is needed. Assumes nothing.
 use mathlib.Core.Path.{◌≡◌, refl, sym, ap, ◌∙◌}
 use mathlib.Core.List.{List, [], ◌∷◌, ◌++◌, append-nil, map}
-use Prim.Native.Nat.{ℕ, zero, suc, ◌+◌, ◌≤◌, ◌<◌}
+use Prim.Native.Nat.{ℕ, zero, suc, ◌≤◌, ◌<◌}
 use native.Mathlib.Decide.{ℕ_discrete}
 use native.Mathlib.Numerals.{add-one}
 use native.Mathlib.Omega.{arith}
 use lib.ListN.{length}
-use lib.Ieee.{Float}
+use lib.Ieee.{Float, nan}
 use borrow.Author.Tests.{eq-eqb, ne_eqb, lt-ltb, le-ltb}
 use Rattle.reply.specs.declared.Refusal.{Refusal}
 use Rattle.reply.specs.declared.Verdict.{Verdict}
@@ -37,29 +37,33 @@ use Rattle.globe.proofs.OneTest.{verdict_by, verdict_by_lem}
 use Rattle.globe.proofs.Filling.{table, length_table, table_map}
 use Rattle.globe.proofs.Taking.{or_fine, refused_append, stays}
 
+-- what would be read past the twelve points; no read is
+abbrev pub unread : SpherePoint
+unread = record { face = 0; mark = 0; x = nan; y = nan; z = nan }
+
 module _ (f : List Float) (s : Shape) where
   -- the corner i: its plane point, where that lies in space, the squared length, and the point on the sphere
   abbrev pub corner : ℕ → BoundaryPoint
   corner i = corner_point (corner_place s.cell (vertex_of s i))
 
-  abbrev pub planeAt : ℕ → Vec2d
-  planeAt i = centre_of (coord_of (corner_place s.cell (vertex_of s i)))
+  abbrev pub plane_at : ℕ → Vec2d
+  plane_at i = centre_of (coord_of (corner_place s.cell (vertex_of s i)))
 
   abbrev pub axes : FaceAxes
   axes = face_at f s.cell.centre.face
 
-  abbrev pub squareAt : ℕ → Float
-  squareAt i = square_of axes (scale_at s) (planeAt i)
+  abbrev pub square_at : ℕ → Float
+  square_at i = square_of axes (scale_at s) (plane_at i)
 
-  abbrev pub farAt : ℕ → SpherePoint
-  farAt i = with_vector s.cell.centre.face a_corner (reached_of axes (scale_at s) (planeAt i))
+  abbrev pub far_at : ℕ → SpherePoint
+  far_at i = with_vector s.cell.centre.face a_corner (reached_of axes (scale_at s) (plane_at i))
 
-  abbrev pub imageAt : ℕ → SpherePoint
-  imageAt i = over_of (root_of (squareAt i)) (farAt i)
+  abbrev pub image_at : ℕ → SpherePoint
+  image_at i = over_of (root_of (square_at i)) (far_at i)
 
-  image_at : (i : ℕ) → image_of f (scale_at s) (corner i) ≡ imageAt i
+  image_at_lem : (i : ℕ) → image_of f (scale_at s) (corner i) ≡ image_at i
   unfolding image_of divided_by
-  image_at i = refl
+  image_at_lem i = refl
 
   module _ (d : Deep s) where
     corner_is : (i : ℕ) → corner_point (land_at s i).place ≡ corner i
@@ -88,13 +92,13 @@ module _ (f : List Float) (s : Shape) where
         (λ k. or_else (first_refused f (scale_at s) (needed_to s n)) (or_else (needed_verdict f (scale_at s) (none_before s d n k)) (or_fine (needed_verdict f (scale_at s) (e k)) k)))
 
     -- past n corners that are fine, what is said of the next one is said of all
-    pub refused_next : (n : ℕ) → n < s.sides → first_refused f (scale_at s) (needed_to s n) ≡ Fine → first_refused f (scale_at s) (needed_to s (suc n)) ≡ verdict_by (length_of (squareAt n))
+    pub refused_next : (n : ℕ) → n < s.sides → first_refused f (scale_at s) (needed_to s n) ≡ Fine → first_refused f (scale_at s) (needed_to s (suc n)) ≡ verdict_by (length_of (square_at n))
     refused_next n h e =
         let there : corner_in s n (land_at s n).place ≡ Point (corner_point (land_at s n).place) = simp (lt-ltb n s.sides h) in
         let is = there ∙ ap Point (corner_is n) in
-        turn_next n (Point (corner n)) is ∙ (ap (λ (v : Verdict). or_else v (needed_verdict f (scale_at s) (Point (corner n)))) e ∙ sym (verdict_by_lem axes (scale_at s) (planeAt n)))
+        turn_next n (Point (corner n)) is ∙ (ap (λ (v : Verdict). or_else v (needed_verdict f (scale_at s) (Point (corner n)))) e ∙ sym (verdict_by_lem axes (scale_at s) (plane_at n)))
 
-    pub fine_to : (n : ℕ) → n ≤ s.sides → ((i : ℕ) → i < n → verdict_by (length_of (squareAt i)) ≡ Fine) → first_refused f (scale_at s) (needed_to s n) ≡ Fine
+    pub fine_to : (n : ℕ) → n ≤ s.sides → ((i : ℕ) → i < n → verdict_by (length_of (square_at i)) ≡ Fine) → first_refused f (scale_at s) (needed_to s n) ≡ Fine
     unfolding needed_to
     fine_to zero h e = refl
     fine_to (suc n) h e = refused_next n (omega arith) (fine_to n (omega arith) (λ i b. e i (omega arith))) ∙ e n (omega arith)
@@ -116,15 +120,15 @@ module _ (f : List Float) (s : Shape) where
               rw turns
         ]
 
-    pub stopped : (n l : ℕ) (r : Refusal) → l < n → n ≤ s.sides → first_refused f (scale_at s) (needed_to s l) ≡ Fine → length_of (squareAt l) ≡ Length.Refused r → globe_of (Verdict.Refused r) [] ≡ turned_of f s (turns_for s.sides n)
+    pub stopped : (n l : ℕ) (r : Refusal) → l < n → n ≤ s.sides → first_refused f (scale_at s) (needed_to s l) ≡ Fine → length_of (square_at l) ≡ Length.Refused r → globe_of (Verdict.Refused r) [] ≡ turned_of f s (turns_for s.sides n)
     stopped n l r h m e is =
         let v = stays f (scale_at s) s (suc l) r (refused_next l (omega arith) e ∙ ap verdict_by is) n (omega arith) in
         ap (λ (x : Verdict). globe_of x (map (image_of f (scale_at s)) (points_to s n))) (sym v) ∙ sym (full n m)
 
-    pub ended : (n : ℕ) (points : List SpherePoint) → n ≤ s.sides → first_refused f (scale_at s) (needed_to s n) ≡ Fine → points ≡ room_with no_sphere_point (table imageAt n) → record { refusal = Fine; count = n; points = points } ≡ turned_of f s (turns_for s.sides n)
+    pub ended : (n : ℕ) (points : List SpherePoint) → n ≤ s.sides → first_refused f (scale_at s) (needed_to s n) ≡ Fine → points ≡ room_with no_sphere_point (table image_at n) → record { refusal = Fine; count = n; points = points } ≡ turned_of f s (turns_for s.sides n)
     ended n points h e laid =
-        let images : map (image_of f (scale_at s)) (points_to s n) ≡ table imageAt n =
-        ap (map (image_of f (scale_at s))) (points_are n h) ∙ (table_map (image_of f (scale_at s)) corner n ∙ (λ k. table (λ i. image_at i k) n)) in
-        let many : n ≡ length (map (image_of f (scale_at s)) (points_to s n)) = sym (ap length images ∙ length_table imageAt n) in
+        let images : map (image_of f (scale_at s)) (points_to s n) ≡ table image_at n =
+        ap (map (image_of f (scale_at s))) (points_are n h) ∙ (table_map (image_of f (scale_at s)) corner n ∙ (λ k. table (λ i. image_at_lem i k) n)) in
+        let many : n ≡ length (map (image_of f (scale_at s)) (points_to s n)) = sym (ap length images ∙ length_table image_at n) in
         (λ k. record { refusal = Fine; count = many k; points = (laid ∙ ap (room_with no_sphere_point) (sym images)) k }) ∙
         (ap (λ (v : Verdict). globe_of v (map (image_of f (scale_at s)) (points_to s n))) (sym e) ∙ sym (full n h))

@@ -79,19 +79,19 @@ module _ (a : FaceAxes) (scale : Float) (p : Vec2d) where
       go true false = refl
       go false b = refl
 
-  abbrev pub byLength : Length → Lifted
-  byLength (Length.Done l) = Lifted.Done (divided_by l (reached_of a scale p))
-  byLength (Length.Refused r) = Lifted.Refused r
+  abbrev pub by_length : Length → Lifted
+  by_length (Length.Done l) = Lifted.Done (divided_by l (reached_of a scale p))
+  by_length (Length.Refused r) = Lifted.Refused r
 
   pub length_is : (v : Vec3d) (q : Float) (l : Length) → v ≡ reached_of a scale p → q ≡ dot_of v v → l ≡ length_of q → l ≡ length_of (square_of a scale p)
   length_is v q l e f g = g ∙ ap length_of (f ∙ (λ n. dot_of (e n) (e n)))
 
   -- the rule of one point, by the length
-  pub lifted_by_lem : byLength (length_of (square_of a scale p)) ≡ lifted_of a scale p
+  pub lifted_by_lem : by_length (length_of (square_of a scale p)) ≡ lifted_of a scale p
   unfolding length_of behind
   lifted_by_lem = rw one_test (go (finite (square_of a scale p)) (lt (square_of a scale p) quarter))
     where
-      go : (f b : Bool) → byLength (pick f (pick b (Length.Refused Behind) (Length.Done (root_of (square_of a scale p)))) (Length.Refused BadNumber)) ≡ lifted_by (pick (not f) (Verdict.Refused BadNumber) (pick b (Verdict.Refused Behind) Fine)) (divided_by (root_of (square_of a scale p)) (reached_of a scale p))
+      go : (f b : Bool) → by_length (pick f (pick b (Length.Refused Behind) (Length.Done (root_of (square_of a scale p)))) (Length.Refused BadNumber)) ≡ lifted_by (pick (not f) (Verdict.Refused BadNumber) (pick b (Verdict.Refused Behind) Fine)) (divided_by (root_of (square_of a scale p)) (reached_of a scale p))
       go true true = refl
       go true false = refl
       go false b = refl
