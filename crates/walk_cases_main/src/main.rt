@@ -1,7 +1,7 @@
 // Runs the walk library on the inputs that document 01 and the issue name, and on malformed ones; a line with the case's name goes before each.
 #![tactic(auto)]
 
-use libc::STDOUT_FILENO;
+const STDOUT_FILENO: i32 = 1;
 
 fn show(name: &[u8], input: &[u8]) -> bool {
     let named = io::write_all(STDOUT_FILENO, b"# ")

@@ -1,7 +1,7 @@
 // Reads one line from standard input and prints the walk that it names.
 #![tactic(auto)]
 
-use libc::STDIN_FILENO;
+const STDIN_FILENO: i32 = 0;
 
 // No good line has more than 23 bytes, so that 64 decide.
 fn main() {

@@ -4,7 +4,9 @@
 ghost use Rattle.std.specs.Prelude.{◌≡◌, true, [], ◌++◌};
 ghost use Rattle.walk.specs.Texts.{text_of};
 
-use libc::{STDERR_FILENO, STDOUT_FILENO};
+const STDOUT_FILENO: i32 = 1;
+
+const STDERR_FILENO: i32 = 2;
 
 // Writes the bytes that lead from one state to the next. The text is written here and nowhere else, since no contract can say what is written.
 fn hand_over(from: walk::State, next: walk::State, bytes: &[u8]) -> bool
