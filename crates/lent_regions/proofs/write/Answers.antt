@@ -7,8 +7,7 @@ use lib.IntN.{ℤ}
 use Rattle.reply.specs.declared.Verdict.{Verdict}
 use Rattle.region_write.specs.Writing.{Outcome, said_written, write_outcome}
 use Rattle.lent_regions.specs.Regions.{GivesList}
-use Rattle.lent_regions.proofs.write.Statement.{statement}
-use Rattle.lent_regions.proofs.write.Tie as tie
+use Rattle.lent_regions.proofs.write.Goals as goal
 
 -- what the writer says and leaves, by its verdict's number
 gives : (level : ℕ) (rows : List ℤ) (out out₂ : List ℕ) (v w : Verdict) (k : ℕ) → w ≡ v → record { said = said_written w; bytes = out₂ } ≡ write_outcome level rows out
@@ -18,18 +17,10 @@ gives level rows out out₂ v w k is e n = record {
   bytes = ap (λ (o : Outcome). o.bytes) e;
 }
 
-returns : tie.Need-returns
-returns c =
-    let called = c.before.before.before.before in
-    gives _ _ _ _ _ _ _ c.enum_told.given.1 called.write.ensures (search rules)
+pub returns-in-Fine : goal.returns-in-Fine
+returns-in-Fine c =
+    gives _ _ _ _ _ _ _ c.in-Fine.is c.write-verdict.ensures (search rules)
 
-returns-2 : tie.Need-returns-2
-returns-2 c =
-    let b = c.before.before in
-    gives _ _ _ _ _ _ _ b.verdict.given.1 b.before.before.before.before.write.ensures c.number.ensures
-
-pub write_spec : {M : Type 1} → statement M
-write_spec =
-    tie.close
-    (tie.spec (λ c κs. search rules) (λ c. search rules) (λ c. search rules) (λ c κs. search rules) (λ c. search rules) returns (λ
-    c. search rules) returns-2)
+pub returns-in-Refused : goal.returns-in-Refused
+returns-in-Refused c =
+    gives _ _ _ _ _ _ _ c.in-Refused.is c.write-verdict.ensures c.number.ensures
