@@ -1,5 +1,5 @@
 -- Definitions in the code's shape, which only inner functions promise: the digits that a root is worked out from, and what its 53 digits are. No entry's
--- promise stands on them; `Rounding.bits-root` and `Patterns.units-are` tie them to the paper's.
+-- promise stands on them; `Rounding.bits_root` and `Patterns.units_are` tie them to the paper's.
 use Rattle.std.specs.Prelude.{◌≡◌, true, ℕ, ◌+◌, ◌-◌, ◌*◌, ◌/◌, ◌%◌, ◌^◌, ◌≤◌, ◌<◌, ltb, Float}
 use Rattle.std.specs.Float.Ieee.{lt}
 use Rattle.reply.specs.Choice.{pick}

@@ -12,7 +12,7 @@ use Rattle.vec2d.specs.declared.Rounded.{Rounded}
 use Rattle.vec2d.specs.declared.Rounded.TheVariants.{Done, Refused}
 use Rattle.vec2d.specs.Rounding.{x1_of, x2_of, quantized_of, folded}
 
--- a² + b² - ab: the squared distance, since a centre lies at x = i - j/2 and y = j·sin 60° (`squared-distance` of proofs/Measures)
+-- a² + b² - ab: the squared distance, since a centre lies at x = i - j/2 and y = j·sin 60° (`squared_distance` of proofs/Measures)
 abbrev pub measure : ℤ → ℤ → ℤ
 measure a b = a *ℤ a +ℤ b *ℤ b -ℤ a *ℤ b
 

@@ -76,7 +76,7 @@ rest_of r1 = sub binary64 one r1
 abbrev pub twice_of : Float → Float
 twice_of r1 = mul binary64 two r1
 
--- `mul_add(2.0, r1, -1.)`, which has the same bits rounded once or twice (`once-or-twice` of proofs/Exact)
+-- `mul_add(2.0, r1, -1.)`, which has the same bits rounded once or twice (`once_or_twice` of proofs/Exact)
 abbrev pub less_one_of : Float → Float
 less_one_of r1 = sub binary64 (mul binary64 two r1) one
 

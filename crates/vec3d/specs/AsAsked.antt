@@ -1,5 +1,5 @@
 -- How the code asks: definitions in its own shape, for the promises of inner functions. No entry's promise cites one, and a law ties each to the paper's
--- definition: `OnePass.by-faces` the test of a face, `Doubt.no-doubt` the look before it, `Choosing.by-pairs` and `nearest-held` the search.
+-- definition: `OnePass.by_faces` the test of a face, `Doubt.no_doubt` the look before it, `Choosing.by_pairs` and `nearest_held` the search.
 use Rattle.std.specs.Prelude.{◌≡◌, Bool, false, not, ◌&&◌, ◌||◌, List, ℕ, suc, ◌<◌, get_or, Float}
 use Rattle.std.specs.Float.{nan, binary64}
 use Rattle.std.specs.Float.Ieee.{of_bits, sub, le, lt}
