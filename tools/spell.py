@@ -35,6 +35,19 @@ CHOSEN = {
     "lifted_by": "lifted_by_lem",
     "mulAdd": "mul_add_of",
     "askText": "ask_text",
+    "image-at": "image_at_lem",
+    # names that are declared inside a module of a file, and imports under another name
+    "imageAt": "image_at",
+    "farAt": "far_at",
+    "planeAt": "plane_at",
+    "squareAt": "square_at",
+    "byLength": "by_length",
+    "meetingOf": "meeting_of",
+    "taken-passed": "taken_passed",
+    "reasons-passed": "reasons_passed",
+    "right-room": "right_room",
+    "no-new": "no_new",
+    "yes-new": "yes_new",
 }
 # where such a name is the kit's own, or a function's of src/
 KEPT = {"units_of": (".rt", ".edit"), "same_place": (".rt", ".edit"), "lifted_by": (".rt", ".edit")}

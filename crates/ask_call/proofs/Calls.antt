@@ -26,7 +26,7 @@ use Rattle.vec2d.specs.declared.Line.{Line}
 use Rattle.vec2d.specs.Rounding.{round_verdict, nearest_of, leftovers_of, left_values, found_of, found_values, round_reply}
 use Rattle.vec2d.specs.Centre.{centre_of, centre_reply}
 use Rattle.vec2d.specs.Meeting.{meet_verdict, meet_reply}
-use Rattle.vec2d.specs.Meeting.{crossing_of as meetingOf}
+use Rattle.vec2d.specs.Meeting.{crossing_of as meeting_of}
 use Rattle.vec3d.specs.declared.Vec3d.{Vec3d}
 use Rattle.vec3d.specs.Frame.{face_at, bad_frame}
 use Rattle.vec3d.specs.Nearest.{nearest_verdict, nearest_values, nearest_to, nearest_reply}
@@ -94,7 +94,7 @@ module _ {k : ℕ} {out ns ds : List ℕ} (clear : ns ≡ zeros 25) (none : out 
   pub meet : (a b : Line) → Gives 2 (meet_reply a b) out ds k → Holds Meet (meet_reply a b) k ns ds
   unfolding numbers_in doubles_in
   meet a b =
-      gives_doubles Meet 2 (meet_verdict a b) (to_bits binary64 (meetingOf a b).at.x ∷ to_bits binary64 (meetingOf a b).at.y ∷ []) refl refl refl refl (lit≤ tt) clear none
+      gives_doubles Meet 2 (meet_verdict a b) (to_bits binary64 (meeting_of a b).at.x ∷ to_bits binary64 (meeting_of a b).at.y ∷ []) refl refl refl refl (lit≤ tt) clear none
 
   pub root : (x : Float) → Gives 1 (root_reply x) out ds k → Holds Root (root_reply x) k ns ds
   unfolding numbers_in doubles_in

@@ -9,7 +9,7 @@ use Rattle.reply.specs.declared.Verdict.TheVariants.{Fine}
 use Rattle.reply.proofs.Entries.{passed}
 use Rattle.level.specs.Levels.{bad_cell}
 use Rattle.coordijk.specs.Coordinates.{not_reduced, Taken}
-use Rattle.coordijk.proofs.Taking.{passed as taken-passed}
+use Rattle.coordijk.proofs.Taking.{passed as taken_passed}
 use Rattle.faceijk.specs.declared.Place.{Place}
 use Rattle.faceijk.specs.Places.{coord_of, bad_face}
 use Rattle.boundary.specs.AsWalked.{cell_verdict}
@@ -27,4 +27,4 @@ asked p l bad e =
     let t5 = passed bad BadRange _ t4.1 in
     let t10 = passed (not_reduced (coord_of p)) NotReduced _ t5.1 in
     let f = ltb-false 19 p.face t3.0 in
-    record { on = omega arith; level = ltb-false 15 l t4.0; ranged = t5.0; taken = taken-passed (coord_of p) t10.0 }
+    record { on = omega arith; level = ltb-false 15 l t4.0; ranged = t5.0; taken = taken_passed (coord_of p) t10.0 }

@@ -9,7 +9,7 @@ use Rattle.faceijk.specs.Crossing.{step_out, crossing_of}
 use Rattle.double.specs.Double.{mul_add_of}
 use Rattle.vec2d.specs.Points.{is_point}
 use Rattle.vec2d.specs.Centre.{centre_of}
-use Rattle.vec2d.specs.Meeting.{along, divisor_of, share_of, reached_of, crossing_of as meetingOf, met_of}
+use Rattle.vec2d.specs.Meeting.{along, divisor_of, share_of, reached_of, crossing_of as meeting_of, met_of}
 use Rattle.vec2d.specs.Closeness.{close}
 use Rattle.boundary.specs.Corners.{through_apertures, corner_of}
 use Rattle.boundary.specs.Landing.{cell_of, land_from, land_at}
@@ -18,5 +18,5 @@ use Rattle.boundary.specs.Boundaries.{points_in, points_to, verdict_to, boundary
 use Rattle.boundary.specs.Checked.{crossed}
 
 pub crossed_right : boundary_reply 6 (record { face = 0; i = 0; j = 0; k = 3 }) 1 0 6 ≡ crossed
-unfolding reduced map_of turns_of through_apertures corner_of unit_of limit_of move_over step_of step_out crossing_of is_point centre_of along divisor_of share_of reached_of meetingOf met_of mul_add_of close cell_of land_from land_at edge_line cross_at away_face hexagon_crossing crossing_between before_at points_in points_to verdict_to boundary_verdict boundary_points room_with of_bits to_bits add sub mul div neg lt le eq of_int round
+unfolding reduced map_of turns_of through_apertures corner_of unit_of limit_of move_over step_of step_out crossing_of is_point centre_of along divisor_of share_of reached_of meeting_of met_of mul_add_of close cell_of land_from land_at edge_line cross_at away_face hexagon_crossing crossing_between before_at points_in points_to verdict_to boundary_verdict boundary_points room_with of_bits to_bits add sub mul div neg lt le eq of_int round
 crossed_right = refl

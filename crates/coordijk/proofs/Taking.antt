@@ -6,7 +6,7 @@ use lib.Dec.{ltb}
 use borrow.Author.Tests.{ltb-false, le-ltb}
 use Rattle.reply.specs.declared.Verdict.TheVariants.{Fine}
 use Rattle.reply.specs.declared.Refusal.TheVariants.{NotReduced}
-use Rattle.reply.proofs.Entries.{neither, passed as reasons-passed}
+use Rattle.reply.proofs.Entries.{neither, passed as reasons_passed}
 use Rattle.coordijk.specs.declared.CoordIJK.{CoordIJK}
 use Rattle.coordijk.specs.Coordinates.{least_of, largest_of, not_reduced, verdict_of, Taken}
 
@@ -22,7 +22,7 @@ passes c t = simp (le-ltb 0 (least_of c) (omega arith), le-ltb 67108864 (largest
 
 -- where the verdict is fine, the triple is taken
 pub fine_taken : (c : CoordIJK) → verdict_of c ≡ Fine → Taken c
-fine_taken c e = passed c (reasons-passed _ NotReduced _ e).0
+fine_taken c e = passed c (reasons_passed _ NotReduced _ e).0
 
 pub taken_fine : (c : CoordIJK) → Taken c → verdict_of c ≡ Fine
 taken_fine c t = simp (passes c t)

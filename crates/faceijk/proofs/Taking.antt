@@ -20,7 +20,7 @@ use Rattle.coordijk.specs.declared.GridMap.TheVariants.{SixthTurnCw}
 use Rattle.coordijk.specs.Maps.{map_of}
 use Rattle.coordijk.specs.Coordinates.{coord, not_reduced, reduced}
 use Rattle.coordijk.proofs.Reducing.{reduced_low}
-use Rattle.coordijk.proofs.Taking.{passed as taken-passed, passes}
+use Rattle.coordijk.proofs.Taking.{passed as taken_passed, passes}
 use Rattle.coordijk.proofs.Turning.{cw_sums}
 use Rattle.faceijk.specs.declared.Place.{Place}
 use Rattle.faceijk.specs.declared.OnGrid.{OnGrid}
@@ -42,7 +42,7 @@ accepted p l b e =
     let t10 = passed (not_reduced (coord_of p)) NotReduced _ t5.1 in
     let f = ltb-false 19 p.face t3.0 in
     record {
-      okay = record { on = omega arith; taken = taken-passed (coord_of p) t10.0 };
+      okay = record { on = omega arith; taken = taken_passed (coord_of p) t10.0 };
       level = t4.0;
       edge = t5.0;
     }
@@ -53,7 +53,7 @@ fine_okay p e =
     let t3 = passed (bad_face p.face) BadFace _ e in
     let t10 = passed (not_reduced (coord_of p)) NotReduced _ t3.1 in
     let f = ltb-false 19 p.face t3.0 in
-    record { on = omega arith; taken = taken-passed (coord_of p) t10.0 }
+    record { on = omega arith; taken = taken_passed (coord_of p) t10.0 }
 
 -- the other way round: a place that is taken passes
 pub okay_fine : (p : Place) → Okay p → place_verdict p ≡ Fine

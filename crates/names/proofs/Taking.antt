@@ -11,7 +11,7 @@ use Rattle.reply.proofs.Entries.{passed, neither}
 use Rattle.level.specs.declared.Grid.{Grid}
 use Rattle.level.specs.Levels.{bad_grid, grid_of, Sound}
 use Rattle.coordijk.specs.Coordinates.{not_reduced}
-use Rattle.coordijk.proofs.Taking.{passed as taken-passed}
+use Rattle.coordijk.proofs.Taking.{passed as taken_passed}
 use Rattle.faceijk.specs.declared.Place.{Place}
 use Rattle.faceijk.specs.declared.OnGrid.{OnGrid}
 use Rattle.faceijk.specs.Places.{coord_of, bad_face, on_grid_of}
@@ -47,8 +47,8 @@ module _ (p q : Place) (l : ℕ) where
       let h = ltb-false 19 q.face faces.1 in
       record {
         level = t4.0;
-        here = record { okay = record { on = omega arith; taken = taken-passed (coord_of p) coords.0 }; inside = ltb-false _ _ sums.0 };
-        there = record { okay = record { on = omega arith; taken = taken-passed (coord_of q) coords.1 }; inside = ltb-false _ _ sums.1 };
+        here = record { okay = record { on = omega arith; taken = taken_passed (coord_of p) coords.0 }; inside = ltb-false _ _ sums.0 };
+        there = record { okay = record { on = omega arith; taken = taken_passed (coord_of q) coords.1 }; inside = ltb-false _ _ sums.1 };
         sound = sound_at l true t4.0;
       }
 

@@ -9,7 +9,7 @@ use lib.Dec.{eqb}
 use borrow.Author.Tests.{not-true, ltb-true, ltb-false, ne_eqb}
 use Rattle.reply.proofs.Entries.{neither, both}
 use Rattle.coordijk.specs.Coordinates.{not_reduced}
-use Rattle.coordijk.proofs.Taking.{passed as taken-passed}
+use Rattle.coordijk.proofs.Taking.{passed as taken_passed}
 use Rattle.faceijk.specs.declared.Place.{Place}
 use Rattle.faceijk.specs.Places.{bad_face, coord_of, Okay}
 use Rattle.region.specs.Places.{before}
@@ -21,7 +21,7 @@ pub right_okay : (p : Place) → wrong_place p ≡ false → Okay p
 right_okay p e =
     let n = neither (bad_face p.face) (not_reduced (coord_of p)) e in
     let f = ltb-false 19 p.face n.0 in
-    record { on = omega arith; taken = taken-passed (coord_of p) n.1 }
+    record { on = omega arith; taken = taken_passed (coord_of p) n.1 }
 
 module _ (at : ℕ → Place) (count : ℕ) (sound : sound_to at count ≡ true) where
   pub okay_at : (n : ℕ) → n < count → Okay (at n)

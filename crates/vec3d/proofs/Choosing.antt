@@ -72,8 +72,8 @@ module _ (d : ℕ → Float) (f : ℕ) (known : (k : ℕ) → k ≤ suc f → fi
     where
       go : (b : Bool) → (b ≡ true → Wins d (suc f) (record { face = suc f; distance = d (suc f) })) → (b ≡ false → Wins d (suc f) best)
           → Wins d (suc f) (pick b (record { face = suc f; distance = d (suc f) }) best)
-      go true yes-new no-new = yes-new refl
-      go false yes-new no-new = no-new refl
+      go true yes_new no_new = yes_new refl
+      go false yes_new no_new = no_new refl
 
 wins : (d : ℕ → Float) (f : ℕ) → ((k : ℕ) → k ≤ f → finite (d k) ≡ true) → Wins d f (nearest_by d f)
 unfolding nearest_by
