@@ -3,7 +3,11 @@
 
 ghost use Rattle.std.specs.Prelude.{◌≡◌, ◌≤◌, length};
 
-use libc::{STDERR_FILENO, STDIN_FILENO, STDOUT_FILENO};
+use std::io::{Input, Read};
+
+// The numbers of the standard streams.
+const STDOUT_FILENO: i32 = 1;
+const STDERR_FILENO: i32 = 2;
 
 // What is kept while the input is read: so many bytes of a line and of answers, and whether all went well so far.
 #[derive(Clone, Copy)]
@@ -203,7 +207,7 @@ fn take_bytes(frame: &[f64], line: &mut [u8], bytes: &[u8], answers: &mut [u8], 
     let mut kept = k;
     let mut i = 0;
     while (i < len) & kept.good {
-        let end = bytes::scan::find(bytes, i, len, b'\n');
+        let end = ask_read::find(bytes, i, len, b'\n');
         if end == len {
             return keep(line, kept, &bytes[i..]);
         }
@@ -214,17 +218,17 @@ fn take_bytes(frame: &[f64], line: &mut [u8], bytes: &[u8], answers: &mut [u8], 
 }
 
 // Takes the whole input, and writes its answers before more is read, so that a person sees them at once. A proved loop has to end and no input has to, so the turns are counted down from a number that no run uses up.
-fn take_all(frame: &[f64], line: &mut [u8], bytes: &mut [u8], answers: &mut [u8]) -> Kept
+fn take_all(rt: &impl Input, frame: &[f64], line: &mut [u8], bytes: &mut [u8], answers: &mut [u8]) -> Kept
     ensures { (result.line ≤ length line.old) × (result.answers ≡ 0) }
 {
+    let mut input = rt.reader();
     let mut kept = Kept::new(0, 0, true);
     let mut turns = u64::MAX;
     while turns > 0 {
-        let got = libc::read(STDIN_FILENO, bytes);
-        if got < 0 {
-            return failed(b"ask: the input could not be read\n");
-        }
-        let n = io::count(got, bytes);
+        let n = match input.read(bytes) {
+            Ok(n) => n,
+            Err(_) => return failed(b"ask: the input could not be read\n"),
+        };
         if n == 0 {
             break;
         }
@@ -239,12 +243,12 @@ fn take_all(frame: &[f64], line: &mut [u8], bytes: &mut [u8], answers: &mut [u8]
 }
 
 // What follows the last newline is a line too, unless nothing does.
-fn main() {
+fn main(rt: HostRuntime) {
     let frame = frame::default_frame();
     let mut line = [0u8; 512];
     let mut bytes = io::large_buffer();
     let mut answers = io::large_buffer();
-    let kept = take_all(&frame, &mut line, &mut bytes, &mut answers);
+    let kept = take_all(&rt, &frame, &mut line, &mut bytes, &mut answers);
     let n = kept.line;
     if n > 0 {
         let last = answer(&frame, &line[..n], &mut answers, kept);
