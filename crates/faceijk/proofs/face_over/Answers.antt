@@ -12,8 +12,8 @@ returns c =
     let pre = c.requires in
     -- which five bits of their word are the face's
     let place_in : c.if-low.at ≡ a.face % 10 =
-      elim c.if-low.branch [
-        | then-low w ↦ omega arith
-        | else-low w ↦ omega arith
-      ] in
+    elim c.if-low.branch [
+      | then-low w ↦ omega arith
+      | else-low w ↦ omega arith
+    ] in
     (λ n. read (c.faces_over.ensures n) (place_in n)) ∙ word_read a.face a.edge pre.0 pre.1 pre.2
