@@ -6,10 +6,11 @@ ghost use Rattle.std.specs.Prelude.{◌<◌};
 
 use faceijk::{Moved, Place};
 use level::{CellLevel, GridLevel};
-use libc::STDOUT_FILENO;
 use locate::Located;
 use vec2d::{Pointed, Rounded};
 use vec3d::{NearestFace, Vec3d};
+
+const STDOUT_FILENO: i32 = 1;
 
 const LEVEL: u32 = 4;
 

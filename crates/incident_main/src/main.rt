@@ -4,9 +4,10 @@
 ghost use Rattle.std.specs.Prelude.{◌<◌};
 
 use level::CellLevel;
-use libc::STDOUT_FILENO;
 use locate::{Batch, Located};
 use vec3d::Vec3d;
+
+const STDOUT_FILENO: i32 = 1;
 
 const LEVEL: u32 = 9;
 
