@@ -1,11 +1,11 @@
 -- What each map does to Q: a turn keeps it, aperture 3 multiplies it by 3 and aperture 7 by 7. Assumes nothing.
 use mathlib.Core.Path.{◌≡◌, ◌∙◌}
-use Prim.Native.Nat.{ℕ, ◌+◌, ◌*◌}
+use Prim.Native.Nat.{ℕ, ◌*◌}
 use native.Mathlib.Omega.{arith}
 use Rattle.coordijk.specs.declared.CoordIJK.{CoordIJK}
 use Rattle.coordijk.specs.declared.GridMap.{GridMap}
 use Rattle.coordijk.specs.declared.GridMap.TheVariants.{SixthTurnCcw, SixthTurnCw, Aperture3Ccw, Aperture3Cw, Aperture7Cw}
-use Rattle.coordijk.specs.Coordinates.{norm, Q}
+use Rattle.coordijk.specs.Coordinates.{Q}
 use Rattle.coordijk.specs.Maps.{map_of}
 use Rattle.coordijk.proofs.Distance.{outweigh, Q_reduced}
 

@@ -1,5 +1,5 @@
 -- The maps of document 01's table: each sends i, j, k to the three vectors named, adds them up and reduces.
-use Rattle.std.specs.Prelude.{List, ℕ, zero, suc, ◌+◌, ◌*◌}
+use Rattle.std.specs.Prelude.{ℕ, zero, suc, ◌+◌, ◌*◌}
 use Rattle.reply.specs.Replies.{Reply, answer, refusal, reply}
 use Rattle.coordijk.specs.declared.CoordIJK.{CoordIJK}
 use Rattle.coordijk.specs.declared.GridMap.{GridMap}

@@ -1,24 +1,21 @@
 -- Demand 3 at the entries, once over face, level, plain or substrate: reduced coordinates up to 2^26, no pentagon turn. Assumes nothing.
-use mathlib.Core.Path.{◌≡◌, refl, sym, ap, ◌∙◌}
+use mathlib.Core.Path.{◌≡◌, sym, ap, ◌∙◌}
 use mathlib.Core.Bool.{Bool, false}
-use mathlib.Core.List.{List}
 use Prim.Native.Nat.{ℕ, ◌+◌, ◌-◌, ◌*◌, ◌/◌, ◌≤◌, ◌<◌}
 use native.Mathlib.Omega.{arith}
-use Rattle.reply.specs.Choice.{pick}
 use Rattle.reply.specs.declared.Verdict.TheVariants.{Fine}
 use Rattle.reply.specs.Replies.{answer}
 use Rattle.reply.proofs.Entries.{answers}
 use Rattle.level.specs.declared.Grid.{Grid}
-use Rattle.level.specs.Levels.{bad_grid, grid_of, limit_of, Sound}
+use Rattle.level.specs.Levels.{grid_of, limit_of, Sound}
 use Rattle.coordijk.specs.Coordinates.{largest_of, reduced}
 use Rattle.faceijk.specs.declared.Place.{Place}
-use Rattle.faceijk.specs.declared.Overage.TheVariants.{FaceEdge, NewFace}
 use Rattle.faceijk.specs.declared.Landed.{Landed}
 use Rattle.faceijk.specs.declared.Rested.{Rested}
-use Rattle.faceijk.specs.Places.{place, coord_of, place_values, sum_at, QAt, Okay, on_grid_verdict}
+use Rattle.faceijk.specs.Places.{coord_of, place_values, sum_at, QAt, on_grid_verdict}
 use Rattle.faceijk.specs.Faces.{face_over, dir_to}
 use Rattle.faceijk.specs.Steps.{step_of}
-use Rattle.faceijk.specs.Crossing.{edge_out, step_out, on_edge, rested, arrived, settle_from}
+use Rattle.faceijk.specs.Crossing.{edge_out, step_out, rested, arrived}
 use Rattle.faceijk.specs.Walking.{Walk}
 use Rattle.faceijk.specs.Entries.{landed_values, rested_values, step_reply, cross_reply, settle_reply}
 use Rattle.faceijk.proofs.Taking.{Accepted, accepted, sound_at, edge_range, okay_over_edge}

@@ -5,7 +5,6 @@ use Prim.Native.Nat.{ℕ, ◌+◌, ◌-◌, ◌*◌, ◌≤◌, ◌<◌, max}
 use native.Mathlib.Decide.{dec_lt}
 use native.Mathlib.Omega.{arith}
 use borrow.Author.Tests.{lt-ltb, le-ltb}
-use Rattle.coordijk.specs.declared.CoordIJK.{CoordIJK}
 use Rattle.coordijk.specs.Coordinates.{least, least_of, largest_of, reduced, norm, Q}
 use Rattle.coordijk.proofs.Distance.{outweigh, Q_reduced}
 use Rattle.coordijk.proofs.Reducing.{reduced_flat}

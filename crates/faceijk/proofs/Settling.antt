@@ -1,7 +1,7 @@
 -- Settling: it ends within the limit, and its count is that of the steps made. Assumes nothing.
 use mathlib.Core.Path.{◌≡◌, refl, sym, ap, ◌∙◌}
 use mathlib.Core.Bool.{Bool, true, false}
-use Prim.Native.Nat.{ℕ, zero, suc, ◌+◌, ◌-◌, ◌*◌, ◌/◌, ◌≤◌, ◌<◌, max}
+use Prim.Native.Nat.{ℕ, zero, suc, ◌+◌, ◌-◌, ◌*◌, ◌/◌, ◌≤◌, ◌<◌}
 use native.Mathlib.Nat.{mul-le-mul, mul-le-mul_left, le-div_iff_mul-le}
 use native.Mathlib.Decide.{dec_lt}
 use native.Mathlib.Omega.{arith}
@@ -10,7 +10,7 @@ use borrow.Author.Tests.{lt-ltb, le-ltb}
 use Rattle.reply.specs.Choice.{pick}
 use Rattle.level.specs.declared.Grid.{Grid}
 use Rattle.level.specs.Levels.{Sound}
-use Rattle.coordijk.specs.Coordinates.{least_of, largest_of, reduced, Q, norm, Taken}
+use Rattle.coordijk.specs.Coordinates.{least_of, largest_of, reduced, Q}
 use Rattle.faceijk.specs.declared.Place.{Place}
 use Rattle.faceijk.specs.declared.Landed.{Landed}
 use Rattle.faceijk.specs.declared.Rested.{Rested}

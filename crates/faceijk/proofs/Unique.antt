@@ -6,7 +6,6 @@ use native.Mathlib.Omega.{arith}
 use lib.Dec.{eqb}
 use borrow.Author.Tests.{eq-eqb, eqb-true}
 use Rattle.reply.specs.declared.Verdict.TheVariants.{Fine}
-use Rattle.reply.specs.Replies.{answer}
 use Rattle.reply.specs.Order.{Foremost}
 use Rattle.reply.proofs.Entries.{both, values, answer_or_refusal, same_refusal, answered}
 use Rattle.reply.proofs.Foremost.{foremost}

@@ -1,5 +1,5 @@
 -- Steps over edges, with no bound on their number: how repeated crossing leads from a place to one within the limit.
-use Rattle.std.specs.Prelude.{ℕ, zero, suc, ◌≤◌, ◌<◌, false}
+use Rattle.std.specs.Prelude.{ℕ, suc, ◌≤◌, ◌<◌, false}
 use Rattle.level.specs.declared.Grid.{Grid}
 use Rattle.faceijk.specs.declared.Place.{Place}
 use Rattle.faceijk.specs.Places.{sum_at}

@@ -4,7 +4,6 @@ use Rattle.reply.specs.Choice.{pick}
 use Rattle.reply.specs.declared.Verdict.{Verdict}
 use Rattle.reply.specs.declared.Refusal.TheVariants.{BadLevel}
 use Rattle.reply.specs.Replies.{Reply, when, first, answer, refusal, reply}
-use Rattle.level.specs.declared.GridLevel.{GridLevel}
 use Rattle.level.specs.declared.Raised.{Raised}
 use Rattle.level.specs.declared.Grid.{Grid}
 use Rattle.level.specs.declared.Gridded.{Gridded}

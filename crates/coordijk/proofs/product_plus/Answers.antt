@@ -1,7 +1,6 @@
 -- `product_plus` meets its contract: three times 2^26 and once more fit. Assumes nothing.
 use native.Mathlib.Nat.{mul-le-mul}
 use native.Mathlib.Omega.{arith}
-use borrow.Author.Rules.{rules}
 use Rattle.coordijk.proofs.product_plus.Goals as goal
 
 pub overflow_mul-result : goal.overflow_mul-result

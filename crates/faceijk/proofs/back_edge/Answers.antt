@@ -1,5 +1,4 @@
 -- `back_edge` meets its contract: the table of neighbours leads back so. Assumes nothing.
-use borrow.Author.Rules.{rules}
 use mathlib.Core.Path.{◌≡◌}
 use Rattle.faceijk.specs.Faces.{face_over, dir_to}
 use Rattle.faceijk.proofs.Faces.{back_over, mate_over}

@@ -1,5 +1,4 @@
 -- `direction_to` meets its contract: each return by the tests that lead to it. Assumes nothing.
-use borrow.Author.Rules.{rules}
 use Rattle.reply.proofs.Tests.{tests}
 use Rattle.faceijk.proofs.direction_to.Goals as goal
 

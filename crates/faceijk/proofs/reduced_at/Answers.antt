@@ -1,5 +1,4 @@
 -- `reduced_at` meets its contract: it places what reducing leaves. Assumes nothing.
-use borrow.Author.Rules.{rules}
 use mathlib.Core.Path.{◌∙◌, ap}
 use Rattle.coordijk.specs.declared.CoordIJK.{CoordIJK}
 use Rattle.coordijk.specs.Coordinates.{reduced}

@@ -1,5 +1,4 @@
 -- `put_spaced` meets its contract: a space, then the number. Assumes nothing.
-use borrow.Author.Rules.{rules}
 use Rattle.text.specs.Numbers.{field}
 use Rattle.text.proofs.Putting.{put_then}
 use Rattle.text.proofs.put_spaced.Goals as goal

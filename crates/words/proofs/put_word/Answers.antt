@@ -1,10 +1,8 @@
 -- `put_word` meets its contract: four stores, one after the other. Assumes nothing.
-use borrow.Author.Rules.{rules}
 use mathlib.Core.Path.{◌≡◌}
 use Prim.Native.Nat.{suc, ◌+◌}
 use native.Mathlib.Numerals.{add-one}
 use native.Mathlib.Omega.{arith}
-use lib.ListN.{length-set}
 use Rattle.words.specs.Words.{word_bytes}
 use Rattle.words.proofs.put_word.Goals as goal
 

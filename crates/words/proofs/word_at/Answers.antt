@@ -1,5 +1,4 @@
 -- `word_at` meets its contract: four bytes, joined. Assumes nothing.
-use borrow.Author.Rules.{rules}
 use Rattle.words.specs.Words.{word_at}
 use Rattle.words.proofs.word_at.Goals as goal
 

@@ -1,5 +1,4 @@
 -- `CoordIJK::map` meets its contract: the verdict decides, and a triple that passes is taken. Assumes nothing.
-use borrow.Author.Rules.{rules}
 use mathlib.Core.Path.{◌∙◌, sym, ap}
 use Rattle.reply.specs.Replies.{answer}
 use Rattle.reply.proofs.Entries.{answers, refuses}

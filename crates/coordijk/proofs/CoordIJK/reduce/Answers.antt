@@ -1,5 +1,4 @@
 -- `CoordIJK::reduce` meets its contract: what it subtracts is the least. Assumes nothing.
-use borrow.Author.Rules.{rules}
 use mathlib.Core.Path.{ap}
 use Prim.Native.Nat.{ℕ, ◌-◌}
 use Rattle.coordijk.specs.declared.CoordIJK.{CoordIJK}

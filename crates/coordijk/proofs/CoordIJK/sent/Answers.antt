@@ -1,9 +1,6 @@
 -- `CoordIJK::sent` meets its contract: each arm is its row of the table. Assumes nothing.
-use borrow.Author.Rules.{rules}
 use mathlib.Core.Path.{◌∙◌}
 use native.Mathlib.Omega.{arith}
-use Rattle.coordijk.specs.declared.CoordIJK.{CoordIJK}
-use Rattle.coordijk.specs.declared.GridMap.{GridMap}
 use Rattle.coordijk.specs.Maps.{map_of}
 use Rattle.coordijk.proofs.Reducing.{reduced_same}
 use Rattle.coordijk.proofs.CoordIJK.sent.Goals as goal

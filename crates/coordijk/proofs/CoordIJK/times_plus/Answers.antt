@@ -1,5 +1,4 @@
 -- `CoordIJK::times_plus` meets its contract: it reduces the three sums. Assumes nothing.
-use borrow.Author.Rules.{rules}
 use mathlib.Core.Path.{◌∙◌}
 use Rattle.coordijk.proofs.Reducing.{reduced_same}
 use Rattle.coordijk.proofs.CoordIJK.times_plus.Goals as goal

@@ -1,5 +1,4 @@
 -- `CoordIJK::verdict` meets its contract: each return by the tests that lead to it. Assumes nothing.
-use borrow.Author.Rules.{rules}
 use Rattle.reply.proofs.Tests.{tests}
 use Rattle.coordijk.proofs.CoordIJK.verdict.Goals as goal
 

@@ -1,5 +1,4 @@
 -- `Place::cross` meets its contract: its tests give the grid, and the crossing is made on it. Assumes nothing.
-use borrow.Author.Rules.{rules}
 use mathlib.Core.Bool.{false}
 use mathlib.Core.Path.{◌∙◌, ap}
 use Rattle.reply.specs.Replies.{answer}

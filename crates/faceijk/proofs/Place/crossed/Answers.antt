@@ -1,6 +1,5 @@
 -- `Place::crossed` meets its contract: each return is a case of a crossing. Assumes nothing.
-use borrow.Author.Rules.{rules}
-use mathlib.Core.Path.{◌≡◌, ◌∙◌, sym}
+use mathlib.Core.Path.{◌∙◌, sym}
 use native.Mathlib.Omega.{arith}
 use Rattle.faceijk.proofs.Crossing.{stays_on_edge, stays, goes}
 use Rattle.faceijk.proofs.Place.crossed.Goals as goal

@@ -1,5 +1,4 @@
 -- `Place::on_edge` meets its contract. Assumes nothing.
-use borrow.Author.Rules.{rules}
 use mathlib.Core.Bool.{◌&&◌}
 use mathlib.Core.Path.{ap}
 use Prim.Native.Nat.{ℕ}

@@ -1,12 +1,8 @@
 -- `Place::on_grid` meets its contract: the face is tested, then the level, then the rest. Assumes nothing.
-use borrow.Author.Rules.{rules}
 use borrow.Author.Tests.{le-ltb}
-use mathlib.Core.Path.{◌≡◌, ◌∙◌, sym, ap}
-use Rattle.reply.proofs.Tests.{tests}
-use Rattle.level.specs.declared.Grid.{Grid}
-use Rattle.level.proofs.Unique.{grid_told, grid_refused}
+use mathlib.Core.Path.{sym, ap}
+use Rattle.level.proofs.Unique.{grid_refused}
 use Rattle.faceijk.specs.declared.OnGrid.{OnGrid}
-use Rattle.faceijk.specs.Places.{edge_verdict, on_grid_of}
 use Rattle.faceijk.proofs.Place.on_grid.Goals as goal
 
 pub returns-in-Refused : goal.returns-in-Refused

@@ -1,5 +1,4 @@
 -- `Place::out` meets its contract: it starts where crossing starts and steps over the edge out. Assumes nothing.
-use borrow.Author.Rules.{rules}
 use mathlib.Core.Bool.{◌&&◌}
 use native.Mathlib.Omega.{arith}
 use lib.Dec.{eqb}

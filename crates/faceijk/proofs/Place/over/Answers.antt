@@ -1,5 +1,4 @@
 -- `Place::over` meets its contract: each return is its row of the step table, as sums. Assumes nothing.
-use borrow.Author.Rules.{rules}
 use mathlib.Core.Path.{◌≡◌, ◌∙◌, sym, ap}
 use native.Mathlib.Omega.{arith}
 use Rattle.faceijk.specs.Steps.{move_over}

@@ -1,5 +1,4 @@
 -- `Place::over_edge` meets its contract: the edge is tested, then the coordinates. Assumes nothing.
-use borrow.Author.Rules.{rules}
 use mathlib.Core.Path.{◌∙◌, sym, ap}
 use Rattle.reply.specs.declared.Verdict.{Verdict}
 use Rattle.reply.proofs.Numbers.{same_verdict}

@@ -1,5 +1,4 @@
 -- `Place::settle` meets its contract: its tests give the grid, and the settling goes on it. Assumes nothing.
-use borrow.Author.Rules.{rules}
 use mathlib.Core.Bool.{false}
 use mathlib.Core.Path.{◌∙◌, ap}
 use Rattle.reply.specs.Replies.{answer}

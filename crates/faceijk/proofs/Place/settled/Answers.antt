@@ -1,9 +1,7 @@
 -- `Place::settled` meets its contract. The loop's invariant: the steps made so far are those of the settling, and what is left of it is the whole; Q falls. Assumes nothing.
-use borrow.Author.Rules.{rules}
-use mathlib.Core.Path.{◌≡◌, refl}
+use mathlib.Core.Path.{refl}
 use native.Mathlib.Omega.{arith}
-use Rattle.faceijk.specs.Places.{sum_at, QAt}
-use Rattle.faceijk.proofs.Settling.{Going, going, going_few, going_less, going_on, going_end}
+use Rattle.faceijk.proofs.Settling.{going, going_few, going_less, going_on, going_end}
 use Rattle.faceijk.proofs.Place.settled.Goals as goal
 
 pub loop-sum-init : goal.loop-sum-init

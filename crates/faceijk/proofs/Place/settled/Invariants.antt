@@ -1,9 +1,7 @@
 -- `Place::settled` meets its contract. The loop's invariant: the steps made so far are those of the settling, and what is left of it is the whole; Q falls. Assumes nothing.
-use borrow.Author.Rules.{rules}
-use mathlib.Core.Path.{◌≡◌, refl}
-use native.Mathlib.Omega.{arith}
+use mathlib.Core.Path.{◌≡◌}
 use Rattle.faceijk.specs.Places.{sum_at, QAt}
-use Rattle.faceijk.proofs.Settling.{Going, going, going_few, going_less, going_on, going_end}
+use Rattle.faceijk.proofs.Settling.{Going}
 use Rattle.faceijk.proofs.Place.settled.Given as goal
 
 abbrev pub invariant-loop-sum : goal.invariant-loop-sum

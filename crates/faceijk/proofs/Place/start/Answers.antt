@@ -1,5 +1,4 @@
 -- `Place::start` meets its contract: it turns exactly where the turn is asked and the edge is KI. Assumes nothing.
-use borrow.Author.Rules.{rules}
 use Rattle.faceijk.proofs.Place.start.Goals as goal
 
 pub returns : goal.returns

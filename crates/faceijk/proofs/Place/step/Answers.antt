@@ -1,5 +1,4 @@
 -- `Place::step` meets its contract: its tests give the grid, and the step is made on it. Assumes nothing.
-use borrow.Author.Rules.{rules}
 use mathlib.Core.Path.{◌∙◌, ap}
 use Rattle.reply.specs.Replies.{answer}
 use Rattle.reply.proofs.Entries.{answers, refuses}

@@ -1,8 +1,6 @@
 -- `Place::verdict` meets its contract: the face is tested, then the coordinates. Assumes nothing.
-use borrow.Author.Rules.{rules}
 use borrow.Author.Tests.{le-ltb}
 use mathlib.Core.Path.{◌∙◌, ap}
-use Rattle.reply.proofs.Tests.{tests}
 use Rattle.reply.specs.Replies.{verdict_number}
 use Rattle.coordijk.specs.declared.CoordIJK.{CoordIJK}
 use Rattle.coordijk.specs.Coordinates.{verdict_of}

@@ -3,7 +3,6 @@ use mathlib.Core.List.{[], ◌∷◌}
 use mathlib.Core.Path.{◌∙◌, sym, ap}
 use Prim.Native.Nat.{ℕ, ◌*◌}
 use native.Mathlib.Omega.{arith}
-use borrow.Author.Rules.{rules}
 use Rattle.reply.specs.Replies.{answer}
 use Rattle.reply.proofs.Entries.{answers, refuses}
 use Rattle.reply.proofs.Numbers.{same_verdict}

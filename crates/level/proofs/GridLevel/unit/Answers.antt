@@ -2,7 +2,6 @@
 use mathlib.Core.Path.{ap}
 use Prim.Native.Nat.{ℕ, ◌*◌, ◌/◌}
 use native.Mathlib.Omega.{arith}
-use borrow.Author.Rules.{rules}
 use Rattle.level.specs.Levels.{unit_of}
 use Rattle.level.proofs.Sizes.{units, units_are, power_small}
 use Rattle.level.proofs.GridLevel.unit.Goals as goal
