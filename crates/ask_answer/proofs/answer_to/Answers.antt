@@ -12,8 +12,7 @@ use Rattle.reply.specs.Replies.{Reply}
 use Rattle.ask_call.specs.Replies.{reply_of, Holds}
 use Rattle.ask_answer.specs.Answers.{Says}
 use borrow.Author.Rules.{rules}
-use Rattle.ask_answer.proofs.answer_to.Statement.{statement}
-use Rattle.ask_answer.proofs.answer_to.Tie as tie
+use Rattle.ask_answer.proofs.answer_to.Goals as goal
 
 -- the questions other than settling, by their numbers
 abbrev others : List ℕ
@@ -25,24 +24,12 @@ not-settling a h e = miss others 6 tt (subst (λ (x : Asked). OneOf others (tag_
 renumbered : {asked : Asked} {r : Reply} {k : ℕ} {ns wide ds : List ℕ} → wide ≡ ns → Holds asked r k ns ds → Holds asked r k wide ds
 renumbered {asked = asked} {r = r} {k = k} {ds = ds} e h = subst (λ (x : List ℕ). Holds asked r k x ds) (sym e) h
 
-call-requires : tie.Need-call-requires
+pub call-number-requires : goal.call-number-requires
 unfolding to_bits of_bits
-call-requires c κs = (refl, refl)
+call-number-requires c = (refl, refl)
 
-returns : tie.Need-returns
+pub returns-in-Settle : goal.returns-in-Settle
 unfolding reply_of
-returns c =
-    let a = c.before.before.before.before.before.args in
-    subst (λ (x : Asked). Says x (reply_of x a.frame.now a.q.numbers a.q.doubles) c.settled.result) (sym c.before.enum_told.given.1) c.settled.ensures
-
-returns-2 : tie.Need-returns-2
-returns-2 c =
-    let a = c.before.before.before.before.before.before.before.before.before.args in
-    let m = c.before.before.before in
-    renumbered c.widened.ensures (m.call.ensures (not-settling a.q.asked c.before.before.before.before.before.before.match.keys2))
-
-pub answer-to-spec : {M : Type 1} → statement M
-answer-to-spec =
-    tie.close
-    (tie.spec (λ c. search rules) (λ c κs. search rules) (λ c. search rules) (λ c. search rules) call-requires (λ c κs. search
-    rules) returns returns-2)
+returns-in-Settle c =
+    let a = c.args in
+    subst (λ (x : Asked). Says x (reply_of x a.frame.now a.q.numbers a.q.doubles) c.settled.result) (sym c.in-Settle.is) c.settled.ensures
