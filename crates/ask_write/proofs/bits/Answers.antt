@@ -1,0 +1,15 @@
+-- `bits` meets its contract: a NaN has the pattern that the definition names. Assumes nothing.
+use borrow.Author.Rules.{rules}
+use mathlib.Core.Path.{sym, ap, subst}
+use lib.Dec.{T}
+use lib.Ieee.{binary64, to_bits}
+use lib.Ieee.Compare.{differs_from_itself}
+use Rattle.double.proofs.Sign.{no_nan}
+use Rattle.ask_write.proofs.bits.Goals as goal
+
+pub returns-then-x : goal.returns-then-x
+unfolding to_bits
+returns-then-x c = sym (ap (to_bits binary64) (differs_from_itself c.args.x (subst T (sym c.if-x.true) tt)))
+
+pub float_to_bits-result : goal.float_to_bits-result
+float_to_bits-result c = no_nan c.args.x c.if-x.false
