@@ -7,6 +7,7 @@ use std::io::{Input, Read};
 
 // The numbers of the standard streams.
 const STDOUT_FILENO: i32 = 1;
+
 const STDERR_FILENO: i32 = 2;
 
 // What is kept while the input is read: so many bytes of a line and of answers, and whether all went well so far.
@@ -218,7 +219,13 @@ fn take_bytes(frame: &[f64], line: &mut [u8], bytes: &[u8], answers: &mut [u8], 
 }
 
 // Takes the whole input, and writes its answers before more is read, so that a person sees them at once. A proved loop has to end and no input has to, so the turns are counted down from a number that no run uses up.
-fn take_all(rt: &impl Input, frame: &[f64], line: &mut [u8], bytes: &mut [u8], answers: &mut [u8]) -> Kept
+fn take_all(
+    rt: &impl Input,
+    frame: &[f64],
+    line: &mut [u8],
+    bytes: &mut [u8],
+    answers: &mut [u8],
+) -> Kept
     ensures { (result.line ≤ length line.old) × (result.answers ≡ 0) }
 {
     let mut input = rt.reader();
