@@ -1,4 +1,4 @@
-// Settling in place, on a lent place, as the source has it; and the one caller that lends a place of its own, so that nobody else needs its kind of proof.
+// Settling in place, on a lent place, as the source has it; and the one caller that lends a place of its own.
 #![tactic(auto)]
 
 ghost use Rattle.std.specs.Prelude.{◌≡◌};
