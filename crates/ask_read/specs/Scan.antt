@@ -1,4 +1,4 @@
--- Where a byte first stands in bytes. The kit had these words once, beside its `find`; they are kept as they were.
+-- Where a byte first stands in bytes, as `find` answers it.
 use Rattle.std.specs.Prelude.{Bool, true, false, List, [], ◌∷◌, ℕ, suc, eqb, take, drop}
 
 -- the bytes from index f up to, not including, index t
