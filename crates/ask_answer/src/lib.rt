@@ -21,22 +21,16 @@ pub struct Answer {
 fn widened(words: [u32; 25]) -> [u64; 25]
     ensures { result ≡ words }
 {
-    let mut wide = [0u64; 25];
-    let mut v = 0;
-    while v < 25 {
-        wide[v] = words[v] as u64;
-        v += 1;
-    }
-    wide
+    words.map(|n| u64::from(n))
 }
 
 fn settled(n: [u32; 9]) -> Answer
     ensures { Says Settle (settle_reply (place_at n 0 3) (number_at n 1) (flag_at n 2)) result }
 {
     let mut numbers = [0u64; 25];
-    let number = lent_grid::settle(n[0], n[3], n[4], n[5], n[1], n[2] == 1, &mut numbers);
+    let outcome = lent_grid::settle(n[0], n[3], n[4], n[5], n[1], n[2] == 1, &mut numbers);
     Answer {
-        number,
+        number: lent::status(outcome),
         numbers,
         doubles: [0.0; 36],
     }
@@ -53,9 +47,9 @@ pub fn answer_to(frame: &[f64], q: Question) -> Answer
         _ => {
             let mut words = [0u32; 25];
             let mut doubles = [0.0; 36];
-            let number = ask_call::call(frame, q, &mut words, &mut doubles);
+            let outcome = ask_call::call(frame, q, &mut words, &mut doubles);
             Answer {
-                number,
+                number: lent::status(outcome),
                 numbers: widened(words),
                 doubles,
             }

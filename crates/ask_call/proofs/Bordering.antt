@@ -6,11 +6,10 @@ use Prim.Native.Nat.{ℕ, zero, suc, ◌-◌, ◌≤◌}
 use native.Mathlib.Omega.{arith}
 use lib.Ieee.{Float, binary64, to_bits}
 use lib.ListN.{length, length-append, length-map, length-replicate, replicate}
+use Rattle.std.specs.Prelude.{Err}
 use Rattle.reply.specs.Choice.{pick}
-use Rattle.reply.specs.declared.Verdict.{Verdict}
-use Rattle.reply.specs.declared.Verdict.TheVariants.{Fine, Refused}
 use Rattle.reply.specs.declared.Refusal.TheVariants.{BadFrame, OutOfFace}
-use Rattle.reply.specs.Replies.{reply, first, when, zeros}
+use Rattle.reply.specs.Replies.{reply, first, when, zeros, Verdict, fine}
 use Rattle.vec3d.specs.Frame.{bad_frame}
 use Rattle.level.specs.Levels.{raised_of}
 use Rattle.faceijk.specs.declared.Place.{Place}
@@ -79,13 +78,13 @@ twelve unused ps h = omega (arith, length-append ps (replicate (12 - length ps) 
 
 module _ (sides : ℕ) (p : Place) (l start n : ℕ) where
   -- a border whose tests found nothing has at most twelve points
-  few_points : sides ≤ 6 → first (boundary_reasons sides p l start n) ≡ Fine → length (boundary_points sides p l start n) ≤ 12
+  few_points : sides ≤ 6 → first (boundary_reasons sides p l start n) ≡ fine → length (boundary_points sides p l start n) ≤ 12
   few_points few f =
       let bad = bad_range sides start n in
       let t = both_fine (cell_verdict p l bad) _ (sym (first_append (cell_reasons p l bad) (when (out_of_face p l) OutOfFace ∷ [])) ∙ f) in
       at_most_twelve sides p l start n (ranged sides start n (asked p l bad t.0).ranged).1 few
 
-  plane_fine : boundary_verdict sides p l start n ≡ Fine → first (boundary_reasons sides p l start n) ≡ Fine
+  plane_fine : boundary_verdict sides p l start n ≡ fine → first (boundary_reasons sides p l start n) ≡ fine
   unfolding boundary_verdict
   plane_fine e = (both_fine (first (boundary_reasons sides p l start n)) (verdict_to (asked_shape sides p l start) (turns_for sides n)) e).0
 
@@ -97,7 +96,7 @@ module _ (sides : ℕ) (p : Place) (l start n : ℕ) where
       (λ e. counted a 2 (length ps) t (twelve no_point ps (few_points few (plane_fine e))) (on_plane (padded ps)))
 
   module _ (s : List Float) where
-    sphere_fine : globe_verdict sides s p l start n ≡ Fine → first (boundary_reasons sides p l start n) ≡ Fine
+    sphere_fine : globe_verdict sides s p l start n ≡ fine → first (boundary_reasons sides p l start n) ≡ fine
     unfolding globe_verdict
     sphere_fine e =
         let framed = when (bad_frame s) BadFrame ∷ [] in
@@ -121,6 +120,6 @@ module _ (sides : ℕ) (p : Place) (l start n : ℕ) where
     unfolding globe_verdict
     globe_framed = go (bad_frame s) _ _ _
       where
-        go : (b : Bool) (v w : Verdict) (vs : List ℕ) → pick b 1 (reply 61 (or_else (pick b (Refused BadFrame) v) w) vs).number ≡ (reply 61 (or_else (pick b (Refused BadFrame) v) w) vs).number
+        go : (b : Bool) (v w : Verdict) (vs : List ℕ) → pick b 1 (reply 61 (or_else (pick b (Err BadFrame) v) w) vs).number ≡ (reply 61 (or_else (pick b (Err BadFrame) v) w) vs).number
         go true v w vs = refl
         go false v w vs = refl

@@ -1,6 +1,6 @@
 -- The questions that need neither frame nor cell: told by their numbers, and asked of any frame alike. Assumes nothing.
 use mathlib.Core.Path.{◌≡◌, refl}
-use mathlib.Core.Bool.{true, false, false≢true}
+use mathlib.Core.Bool.{true, false≢true}
 use mathlib.Core.List.{List, [], ◌∷◌}
 use Prim.Native.Nat.{ℕ}
 use types.Run.{OneOf, miss}

@@ -9,12 +9,11 @@ use lib.Dec.{eqb}
 use lib.ListN.{length, get_or, take, drop}
 use lib.Seq.{drop_at}
 use borrow.Author.Tests.{ne_eqb, le-ltb}
+use Rattle.std.specs.Prelude.{Ok, Err}
 use Rattle.reply.specs.Choice.{pick}
 use Rattle.reply.specs.declared.Refusal.{Refusal}
 use Rattle.reply.specs.declared.Refusal.TheVariants.{BadFrame}
-use Rattle.reply.specs.declared.Verdict.{Verdict}
-use Rattle.reply.specs.declared.Verdict.TheVariants.{Fine, Refused}
-use Rattle.reply.specs.Replies.{number_of, refusal, reply, zeros}
+use Rattle.reply.specs.Replies.{number_of, refusal, reply, zeros, Verdict, fine}
 use Rattle.reply.proofs.Numbers.{number_pos}
 use Rattle.lent.specs.Lent.{held, framed_number, Gives, GivesParts}
 use Rattle.ask_read.specs.declared.Asked.{Asked}
@@ -115,9 +114,9 @@ all_doubles (k ∷ ks) (v ∷ vs) d l = go (is_double k) refl (λ e. all_doubles
 
 -- a call that was lent room for m numbers and d doubles, none of which is set, and gives one part of its values as numbers and the other as doubles
 pub holds : (asked : Asked) (n m d : ℕ) (v : Verdict) (vs : List ℕ) (one other : List ℕ → List ℕ) {k : ℕ} {ns ds : List ℕ}
-    → length (kinds_of asked) ≡ n → numbers_in (kinds_of asked) ≡ m → doubles_in (kinds_of asked) ≡ d → (v ≡ Fine → Parted (kinds_of asked) vs (one vs) (other vs))
+    → length (kinds_of asked) ≡ n → numbers_in (kinds_of asked) ≡ m → doubles_in (kinds_of asked) ≡ d → (v ≡ fine → Parted (kinds_of asked) vs (one vs) (other vs))
     → k ≡ (reply n v vs).number → ns ≡ held k m (one (reply n v vs).values) (zeros 25) → ds ≡ held k d (other (reply n v vs).values) (zeros 36) → Holds asked (reply n v vs) k ns ds
-holds asked n m d Fine vs one other {ns = ns} {ds = ds} l some more p e f g =
+holds asked n m d (Ok _) vs one other {ns = ns} {ds = ds} l some more p e f g =
     let part = p refl in
     let here : ns ≡ one vs ++ drop m (zeros 25) = rw e at f in
     let there : ds ≡ other vs ++ drop d (zeros 36) = rw e at g in
@@ -127,7 +126,7 @@ holds asked n m d Fine vs one other {ns = ns} {ds = ds} l some more p e f g =
       other_numbers = rw (here, some) (drop_at (one vs) (drop m (zeros 25)) m (part.numbers ∙ some) ∙ drop_zeros m 25);
       other_doubles = rw (there, more) (drop_at (other vs) (drop d (zeros 36)) d (part.doubles ∙ more) ∙ drop_zeros d 36);
     }
-holds asked n m d (Refused r) vs one other {k = k} l some more p e f g =
+holds asked n m d (Err r) vs one other {k = k} l some more p e f g =
     refused asked n r l e (kept r k m (one (zeros n)) (zeros 25) e f) (kept r k d (other (zeros n)) (zeros 36) e g)
 
 -- no value for a slice leaves it as it was
@@ -163,6 +162,6 @@ gives_parts asked bad all n m v vs l a b room space p said e f g =
 
 -- ---- a lent frame: a bad one is refused first, so that its number is the reply's
 
-pub framed : (bad : Bool) (n : ℕ) (v : Verdict) (vs : List ℕ) → pick bad 1 (reply n (pick bad (Refused BadFrame) v) vs).number ≡ (reply n (pick bad (Refused BadFrame) v) vs).number
+pub framed : (bad : Bool) (n : ℕ) (v : Verdict) (vs : List ℕ) → pick bad 1 (reply n (pick bad (Err BadFrame) v) vs).number ≡ (reply n (pick bad (Err BadFrame) v) vs).number
 framed true n v vs = refl
 framed false n v vs = refl

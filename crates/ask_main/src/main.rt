@@ -1,264 +1,212 @@
 // Reads questions from standard input, a line each, to its end, and answers them in order on standard output, on the default frame.
 #![tactic(auto)]
 
-ghost use Rattle.std.specs.Prelude.{◌≡◌, ◌≤◌, length};
+ghost use Rattle.std.specs.Prelude.{◌≤◌};
 
-use std::io::{Input, Read};
+use std::error::Error;
+use std::io::{Read, Write};
+use std::{fmt, io};
 
-// The numbers of the standard streams.
-const STDOUT_FILENO: i32 = 1;
-
-const STDERR_FILENO: i32 = 2;
-
-// What is kept while the input is read: so many bytes of a line and of answers, and whether all went well so far.
-#[derive(Clone, Copy)]
-struct Kept {
-    pub line: usize,
-    pub answers: usize,
-    pub good: bool,
+// A buffer, and how many of its bytes are filled.
+#[derive(Drop)]
+struct Held<const N: usize> {
+    bytes: [u8; N],
+    len: usize,
+    ghost fits: { len ≤ N },
 }
 
-impl Kept {
-    fn new(line: usize, answers: usize, good: bool) -> Kept
-        ensures { (result.line ≡ line) × (result.answers ≡ answers) × (result.good ≡ good) }
-    {
-        Kept {
-            line,
-            answers,
-            good,
+impl<const N: usize> Held<N> {
+    fn new() -> Self {
+        Held {
+            bytes: [0; N],
+            len: 0,
         }
     }
-}
 
-fn say(text: &[u8]) -> bool {
-    io::write_all(STDOUT_FILENO, text)
-}
-
-// Each question with its form, an example line and what it answers: those on the plane and of faces.
-fn say_plane_help() -> bool {
-    say(
-        b"round X Y -- round 0.5 -0.5 -- I J K R1 R2: the coordinates that a plane point rounds to, and what was left over\n",
-    ) & say(b"centre I J K -- centre 1 1 0 -- X Y: the plane point of coordinates\n")
-        & say(
-            b"meet X Y X Y X Y X Y -- meet 0 0 2 2 0 2 2 0 -- X Y: the meeting of two lines, each through two points\n",
-        )
-        & say(
-            b"direction FACE FACE -- direction 0 4 -- 0 the face itself, 1, 2, 3 over that edge, 7 any other\n",
-        )
-        & say(
-            b"nearest X Y Z -- nearest 0 0 1 -- FACE D: the face nearest to a unit vector, and the squared distance\n",
-        )
-}
-
-// Those of places.
-fn say_place_help() -> bool {
-    say(
-        b"turn FACE I J K ccw|cw -- turn 0 1 0 0 ccw -- FACE I J K: the place turned by 60 degrees\n",
-    ) & say(
-        b"step FACE LEVEL p|s I J K EDGE -- step 0 0 p 3 0 0 2 -- FACE I J K: the place carried over an edge\n",
-    ) & say(
-        b"cross FACE LEVEL p|s I J K yes|no -- cross 0 0 p 3 0 0 no -- FACE I J K None|FaceEdge|NewFace: one crossing\n",
-    ) & say(
-        b"settle FACE LEVEL p|s I J K -- settle 0 0 p 3 0 0 -- FACE I J K STEPS: crossings until the place rests\n",
-    ) & say(
-        b"same LEVEL FACE I J K FACE I J K -- same 0 4 4 0 2 0 4 2 0 -- yes or no: whether two places are names of one corner\n",
-    ) & say(
-        b"first FACE LEVEL I J K -- first 4 0 4 0 2 -- FACE I J K: the first name of a corner, that of its lowest face\n",
-    ) & say(
-        b"place LEVEL X Y Z -- place 3 0 0 1 -- FACE I J K R1 R2: the place of a unit vector, and what was left over\n",
-    )
-}
-
-// Those of cells.
-fn say_cell_help() -> bool {
-    say(
-        b"corners FACE LEVEL I J K -- corners 0 0 1 0 0 -- LEVEL, then I J K of each of the six corners of a cell\n",
-    ) & say(
-        b"hexagon FACE LEVEL I J K START LENGTH -- hexagon 0 1 1 0 0 0 6 -- COUNT, then FACE X Y corner|crossing of each point\n",
-    ) & say(
-        b"pentagon FACE LEVEL I J K START LENGTH -- pentagon 0 1 6 0 2 0 5 -- COUNT, then FACE X Y corner|crossing of each point\n",
-    )
-}
-
-// Those of roots and of the sphere, and the help itself.
-fn say_sphere_help() -> bool {
-    say(b"root X -- root 2 -- R: the square root of a double\n")
-        & say(
-            b"sphere FACE LEVEL X Y -- sphere 0 0 1 0 -- X Y Z: the unit vector of a plane point of a face\n",
-        )
-        & say(
-            b"globe6 FACE LEVEL I J K START LENGTH -- globe6 0 1 1 0 0 0 6 -- COUNT, then FACE X Y Z corner|crossing of each point\n",
-        )
-        & say(
-            b"globe5 FACE LEVEL I J K START LENGTH -- globe5 0 1 6 0 2 0 5 -- COUNT, then FACE X Y Z corner|crossing of each point\n",
-        )
-        & say(b"help -- help -- these lines\n")
-}
-
-// Why a line is refused.
-fn say_why() -> bool {
-    say(
-        b"any question may be refused: refused NUMBER NAME, and the README says what each number means\n",
-    ) & say(
-        b"a line is refused 14 BadLine if its first word is none of these, if a field is missing or one too many, or if two spaces stand together or one at either end\n",
-    ) & say(
-        b"a number is refused if it has a sign, a leading zero, a letter, or is 4294967296 or more\n",
-    ) & say(
-        b"a double (X, Y, Z) is the 16 hex digits of its bits, or a decimal such as 12, -0.5 or 0.1, which is rounded to the nearest double; it is refused if it has more than 15 digits, an exponent, a plus, a leading zero as 01 has, or no digit before or after its point\n",
-    ) & say(b"the words p, s, ccw, cw, yes and no are written just so\n")
-}
-
-// Something failed: it is said, and nothing more is read or answered, since a program cannot set its exit status.
-fn failed(complaint: &[u8]) -> Kept
-    ensures { (result.line ≡ 0) × (result.answers ≡ 0) }
-{
-    io::write_all(STDERR_FILENO, complaint);
-    Kept::new(0, 0, false)
-}
-
-// Writes the answers that are kept.
-fn hand_over(answers: &[u8], k: Kept) -> Kept
-    requires { k.answers ≤ length answers.now }
-    ensures { (result.line ≤ k.line) × (result.answers ≡ 0) }
-{
-    let n = k.answers;
-    if !k.good {
-        return Kept::new(0, 0, false);
+    fn filled(&self) -> &[u8] {
+        &self.bytes[..self.len]
     }
-    if !say(&answers[..n]) {
-        return failed(b"ask: the answers could not be written\n");
+
+    fn clear(&mut self) {
+        self.len = 0;
     }
-    Kept::new(k.line, 0, true)
+
+    // Keeps as many of the bytes as there is room for.
+    fn fill(&mut self, more: &[u8]) {
+        let at = self.len;
+        let n = more.len().min(N - at);
+        let all = &mut self.bytes[..];
+        all[at..at + n].copy_from_slice(&more[..n]);
+        self.len = at + n;
+    }
 }
 
-// What is kept where the buffer has room for any answer: what may leave too little is written first.
-fn with_room(answers: &[u8], k: Kept) -> Kept
-    requires { k.answers ≤ length answers.now }
-    ensures { result.answers ≤ length answers.now }
-{
-    if answers.len() - k.answers < ask_write::LONGEST {
-        return hand_over(answers, k);
-    }
-    k
+// What failed. It is said, nothing more is read or answered, and the exit status stays 0, as it was.
+#[derive(Clone, Copy, Debug, PartialEq, Eq, Drop)]
+enum Failed {
+    Reading,
+    Writing,
+    Helping,
 }
 
-// The help has no answer's line: it is said at once, after what is kept.
-fn help(answers: &[u8], k: Kept) -> Kept
-    requires { k.answers ≤ length answers.now }
-    ensures { (result.line ≡ 0) × (result.answers ≡ 0) }
-{
-    let after = hand_over(answers, k);
-    if after.good
-        & !(say_plane_help() & say_place_help() & say_cell_help() & say_sphere_help() & say_why())
-    {
-        return failed(b"ask: the help could not be written\n");
+impl fmt::Display for Failed {
+    fn fmt<W: fmt::Write>(&self, f: &mut fmt::Formatter<W>) -> fmt::Result {
+        f.write_str(match self {
+            Failed::Reading => "the input could not be read",
+            Failed::Writing => "the answers could not be written",
+            Failed::Helping => "the help could not be written",
+        })
     }
-    Kept::new(0, 0, after.good)
 }
 
-// Answers a line into the buffer.
-fn answer(frame: &[f64], line: &[u8], answers: &mut [u8], k: Kept) -> Kept
-    requires { k.answers ≤ length answers.old }
-    ensures { (result.line ≡ 0) × (result.answers ≤ length answers.old) }
-{
-    let kept = with_room(answers, k);
-    let at = kept.answers;
-    let n = ask_write::reply_to(frame, line, &mut answers[at..]);
-    if n == 0 {
-        return help(answers, kept);
+impl Error for Failed {}
+
+// Each question with its form, an example line and what it answers: those on the plane and of faces, of places, of cells, of roots and of the sphere, and the help itself; then why a line is refused.
+const HELP: [&str; 25] = [
+    "round X Y -- round 0.5 -0.5 -- I J K R1 R2: the coordinates that a plane point rounds to, and what was left over",
+    "centre I J K -- centre 1 1 0 -- X Y: the plane point of coordinates",
+    "meet X Y X Y X Y X Y -- meet 0 0 2 2 0 2 2 0 -- X Y: the meeting of two lines, each through two points",
+    "direction FACE FACE -- direction 0 4 -- 0 the face itself, 1, 2, 3 over that edge, 7 any other",
+    "nearest X Y Z -- nearest 0 0 1 -- FACE D: the face nearest to a unit vector, and the squared distance",
+    "turn FACE I J K ccw|cw -- turn 0 1 0 0 ccw -- FACE I J K: the place turned by 60 degrees",
+    "step FACE LEVEL p|s I J K EDGE -- step 0 0 p 3 0 0 2 -- FACE I J K: the place carried over an edge",
+    "cross FACE LEVEL p|s I J K yes|no -- cross 0 0 p 3 0 0 no -- FACE I J K None|FaceEdge|NewFace: one crossing",
+    "settle FACE LEVEL p|s I J K -- settle 0 0 p 3 0 0 -- FACE I J K STEPS: crossings until the place rests",
+    "same LEVEL FACE I J K FACE I J K -- same 0 4 4 0 2 0 4 2 0 -- yes or no: whether two places are names of one corner",
+    "first FACE LEVEL I J K -- first 4 0 4 0 2 -- FACE I J K: the first name of a corner, that of its lowest face",
+    "place LEVEL X Y Z -- place 3 0 0 1 -- FACE I J K R1 R2: the place of a unit vector, and what was left over",
+    "corners FACE LEVEL I J K -- corners 0 0 1 0 0 -- LEVEL, then I J K of each of the six corners of a cell",
+    "hexagon FACE LEVEL I J K START LENGTH -- hexagon 0 1 1 0 0 0 6 -- COUNT, then FACE X Y corner|crossing of each point",
+    "pentagon FACE LEVEL I J K START LENGTH -- pentagon 0 1 6 0 2 0 5 -- COUNT, then FACE X Y corner|crossing of each point",
+    "root X -- root 2 -- R: the square root of a double",
+    "sphere FACE LEVEL X Y -- sphere 0 0 1 0 -- X Y Z: the unit vector of a plane point of a face",
+    "globe6 FACE LEVEL I J K START LENGTH -- globe6 0 1 1 0 0 0 6 -- COUNT, then FACE X Y Z corner|crossing of each point",
+    "globe5 FACE LEVEL I J K START LENGTH -- globe5 0 1 6 0 2 0 5 -- COUNT, then FACE X Y Z corner|crossing of each point",
+    "help -- help -- these lines",
+    "any question may be refused: refused NUMBER NAME, and the README says what each number means",
+    "a line is refused 14 BadLine if its first word is none of these, if a field is missing or one too many, or if two spaces stand together or one at either end",
+    "a number is refused if it has a sign, a leading zero, a letter, or is 4294967296 or more",
+    "a double (X, Y, Z) is the 16 hex digits of its bits, or a decimal such as 12, -0.5 or 0.1, which is rounded to the nearest double; it is refused if it has more than 15 digits, an exponent, a plus, a leading zero as 01 has, or no digit before or after its point",
+    "the words p, s, ccw, cw, yes and no are written just so",
+];
+
+fn print_help(rt: &impl Print) -> io::Result<()> {
+    for line in HELP {
+        println!(rt; "{line}")?;
     }
-    Kept::new(0, at + n, kept.good)
+    Ok(())
 }
 
-// Keeps bytes of a line, as many as the buffer holds: a line that fills it is longer than any good one.
-fn keep(line: &mut [u8], k: Kept, bytes: &[u8]) -> Kept
-    requires { k.line ≤ length line.old }
-    ensures { (result.line ≤ length line.old) × (result.answers ≡ k.answers) }
-{
-    let mut n = k.line;
-    let mut i = 0;
-    while (i < bytes.len()) & (n < line.len()) {
-        line[n] = bytes[i];
-        n += 1;
-        i += 1;
-    }
-    Kept::new(n, k.answers, k.good)
+// Writes the answers that are held.
+fn hand_over(rt: &impl Print, answers: &mut Held<65536>) -> Result<(), Failed> {
+    io::writer(rt)
+        .write_all(answers.filled())
+        .map_err(|_| Failed::Writing)?;
+    answers.clear();
+    Ok(())
 }
 
-// Takes the last bytes of a line, up to its newline, of which a carriage return is a part.
-fn end_line(frame: &[f64], line: &mut [u8], bytes: &[u8], answers: &mut [u8], k: Kept) -> Kept
-    requires { (k.line ≤ length line.old) × (k.answers ≤ length answers.old) }
-    ensures { (result.line ≡ 0) × (result.answers ≤ length answers.old) }
-{
-    if k.line == 0 {
-        let n = ask_read::without_end(bytes, b'\r');
-        return answer(frame, &bytes[..n], answers, k);
-    }
-    let kept = keep(line, k, bytes);
-    let all = kept.line;
-    let n = ask_read::without_end(&line[..all], b'\r');
-    answer(frame, &line[..n], answers, kept)
+// The help has no answer's line: it is said at once, after what is held.
+fn help(rt: &impl Print, answers: &mut Held<65536>) -> Result<(), Failed> {
+    hand_over(rt, answers)?;
+    print_help(rt).map_err(|_| Failed::Helping)
 }
 
-fn take_bytes(frame: &[f64], line: &mut [u8], bytes: &[u8], answers: &mut [u8], k: Kept) -> Kept
-    requires { (k.line ≤ length line.old) × (k.answers ≤ length answers.old) }
-    ensures { (result.line ≤ length line.old) × (result.answers ≤ length answers.old) }
-{
-    let len = bytes.len();
-    let mut kept = k;
-    let mut i = 0;
-    while (i < len) & kept.good {
-        let end = ask_read::find(bytes, i, len, b'\n');
-        if end == len {
-            return keep(line, kept, &bytes[i..]);
-        }
-        kept = end_line(frame, line, &bytes[i..end], answers, kept);
-        i = end + 1;
-    }
-    kept
-}
-
-// Takes the whole input, and writes its answers before more is read, so that a person sees them at once. A proved loop has to end and no input has to, so the turns are counted down from a number that no run uses up.
-fn take_all(
-    rt: &impl Input,
+// Answers a line into the buffer: what may leave too little room for any answer is written first.
+fn answer(
+    rt: &impl Print,
     frame: &[f64],
-    line: &mut [u8],
+    line: &[u8],
+    answers: &mut Held<65536>,
+) -> Result<(), Failed> {
+    if 65536 - answers.len < ask_write::LONGEST {
+        hand_over(rt, answers)?;
+    }
+    let at = answers.len;
+    let n = ask_write::reply_to(frame, line, &mut answers.bytes[at..]);
+    if n == 0 {
+        return help(rt, answers);
+    }
+    answers.len = at + n;
+    Ok(())
+}
+
+// Takes the last bytes of a line, up to its newline, of which a carriage return is a part. A line that fills its buffer is longer than any good one.
+fn end_line(
+    rt: &impl Print,
+    frame: &[f64],
+    line: &mut Held<512>,
+    bytes: &[u8],
+    answers: &mut Held<65536>,
+) -> Result<(), Failed> {
+    if line.len == 0 {
+        let n = ask_read::without_end(bytes, b'\r');
+        return answer(rt, frame, &bytes[..n], answers);
+    }
+    line.fill(bytes);
+    let all = line.filled();
+    let n = ask_read::without_end(all, b'\r');
+    answer(rt, frame, &all[..n], answers)?;
+    line.clear();
+    Ok(())
+}
+
+// Ends a line at each newline of bytes, and keeps what stands after the last one.
+fn take_bytes(
+    rt: &impl Print,
+    frame: &[f64],
+    line: &mut Held<512>,
+    bytes: &[u8],
+    answers: &mut Held<65536>,
+) -> Result<(), Failed> {
+    let mut rest = bytes;
+    while let Some(end) = rest.iter().position(|b| *b == b'\n') {
+        end_line(rt, frame, line, &rest[..end], answers)?;
+        rest = &rest[end + 1..];
+    }
+    line.fill(rest);
+    Ok(())
+}
+
+// Takes the whole input, and writes its answers before more is read, so that a person sees them at once. A proved loop has to end and no input has to, so the turns are as many as no run uses up.
+fn take_all(
+    rt: &(impl Input + Print),
+    frame: &[f64],
+    line: &mut Held<512>,
     bytes: &mut [u8],
-    answers: &mut [u8],
-) -> Kept
-    ensures { (result.line ≤ length line.old) × (result.answers ≡ 0) }
-{
+    answers: &mut Held<65536>,
+) -> Result<(), Failed> {
     let mut input = rt.reader();
-    let mut kept = Kept::new(0, 0, true);
-    let mut turns = u64::MAX;
-    while turns > 0 {
+    for _turn in 0..u64::MAX {
         let n = match input.read(bytes) {
             Ok(n) => n,
-            Err(_) => return failed(b"ask: the input could not be read\n"),
+            Err(_) => return Err(Failed::Reading),
         };
         if n == 0 {
             break;
         }
-        let taken = take_bytes(frame, line, &bytes[..n], answers, kept);
-        kept = hand_over(answers, taken);
-        if !kept.good {
-            break;
-        }
-        turns -= 1;
+        take_bytes(rt, frame, line, &bytes[..n], answers)?;
+        hand_over(rt, answers)?;
     }
-    kept
+    Ok(())
 }
 
 // What follows the last newline is a line too, unless nothing does.
-fn main(rt: HostRuntime) {
+fn answer_all(rt: &(impl Input + Print)) -> Result<(), Failed> {
     let frame = frame::default_frame();
-    let mut line = [0u8; 512];
-    let mut bytes = io::large_buffer();
-    let mut answers = io::large_buffer();
-    let kept = take_all(&rt, &frame, &mut line, &mut bytes, &mut answers);
-    let n = kept.line;
-    if n > 0 {
-        let last = answer(&frame, &line[..n], &mut answers, kept);
-        hand_over(&answers, last);
+    let mut line = Held::<512>::new();
+    let mut bytes = [0u8; 65536];
+    let mut answers = Held::<65536>::new();
+    take_all(rt, &frame, &mut line, &mut bytes, &mut answers)?;
+    if line.len > 0 {
+        answer(rt, &frame, line.filled(), &mut answers)?;
+        hand_over(rt, &mut answers)?;
+    }
+    Ok(())
+}
+
+fn main(rt: HostRuntime) {
+    if let Err(failed) = answer_all(&rt) {
+        let _ = eprintln!(&rt; "ask: {failed}");
     }
 }

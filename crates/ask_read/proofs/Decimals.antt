@@ -1,6 +1,6 @@
 -- The parts of a decimal, and the room for its digits. Assumes nothing.
-use mathlib.Core.Path.{◌≡◌, sym, ap, ◌∙◌}
-use mathlib.Core.Bool.{Bool, true, false, not, ◌&&◌, false≢true}
+use mathlib.Core.Path.{◌≡◌, refl, sym, ap, ◌∙◌}
+use mathlib.Core.Bool.{Bool, true, false, not, ◌&&◌}
 use mathlib.Core.List.{List, [], ◌∷◌}
 use Prim.Native.Nat.{ℕ, ◌+◌, ◌-◌, ◌^◌, ◌≤◌, ◌<◌}
 use native.Mathlib.Nat.{zero-add, le_trans, le_of_eq, one-mul, mul-le-mul_right, pow-le-pow_right}
@@ -11,39 +11,40 @@ use lib.IntN.{pos}
 use lib.Pow.{pow-add}
 use lib.ListN.{length, get_or, take, drop, length-take, length-drop, drop_of_length-le}
 use lib.Seq.{take-length}
-use borrow.Author.Tests.{ltb-true}
+use borrow.Author.Tests.{ltb-true, eqb-true, eq-eqb}
 use borrow.Author.Rules.{part_to_end}
 use lib.Ieee.{binary64, of_int, div, in_float}
 use Rattle.reply.specs.Choice.{pick}
 use Rattle.ask_read.specs.Scan.{index_of, slice}
-use Rattle.ask_read.specs.declared.Digits.{Digits}
-use Rattle.ask_read.specs.Words.{none, spelt, plain, real, bad, decimal_from, unsigned_field}
+use Rattle.std.specs.Prelude.{Some, None, option_map, option_and_then, bytes_eq}
+use Rattle.std.specs.List.{starts_with}
+use Rattle.ask_read.specs.Words.{spelt, plain, decimal_from, unsigned_field}
 use Rattle.reply.proofs.Entries.{both}
 use Rattle.ask_read.proofs.Spelling.{Room, spelt_room, spelt_append}
 use Rattle.ask_read.proofs.Rounded.{once}
 
 -- ---- room
 
-pub widen : {base : ℕ} {d : Digits} {s : List ℕ} {t u : ℕ} → Room base d s t → t ≤ u → Room base d s u
+pub widen : {base v : ℕ} {s : List ℕ} {t u : ℕ} → Room base v s t → t ≤ u → Room base v s u
 widen r h = record { fits = le_trans r.fits h }
 
 -- digits from the start on need as many tens as they are
-pub from_none : (base : ℕ) (s : List ℕ) → Room base none s (base ^ length s)
+pub from_none : (base : ℕ) (s : List ℕ) → Room base 0 s (base ^ length s)
 from_none base s = record { fits = le_of_eq (one-mul (base ^ length s)) }
 
-pub at_most : (base : ℕ) (s : List ℕ) (n : ℕ) → 1 ≤ base → length s ≤ n → Room base none s (base ^ n)
+pub at_most : (base : ℕ) (s : List ℕ) (n : ℕ) → 1 ≤ base → length s ≤ n → Room base 0 s (base ^ n)
 at_most base s n h k = widen (from_none base s) (pow-le-pow_right h k)
 
-pub two_parts : (s t : List ℕ) → length s + length t ≤ 15 → Room 10 (spelt 10 none s) t (10 ^ 15)
-two_parts s t h =
+pub two_parts : (s t : List ℕ) (v : ℕ) → spelt 10 0 s ≡ Some v → length s + length t ≤ 15 → Room 10 v t (10 ^ 15)
+two_parts s t v e h =
     record {
       fits =
-          le_trans (mul-le-mul_right (10 ^ length t) (spelt_room 10 none s (10 ^ length s) (lit≤ tt) (from_none 10 s)))
+          le_trans (mul-le-mul_right (10 ^ length t) (spelt_room 10 0 s (10 ^ length s) v (lit≤ tt) (from_none 10 s) e))
           (le_trans (le_of_eq (sym (pow-add 10 (length s) (length t)))) (pow-le-pow_right (lit< tt) h));
     }
 
-pub digits_small : (s t : List ℕ) → length s + length t ≤ 15 → (spelt 10 (spelt 10 none s) t).value < 10 ^ 15
-digits_small s t h = omega (arith, spelt_room 10 (spelt 10 none s) t (10 ^ 15) (lit≤ tt) (two_parts s t h))
+pub digits_small : (s t : List ℕ) (v r : ℕ) → spelt 10 0 s ≡ Some v → spelt 10 v t ≡ Some r → length s + length t ≤ 15 → r < 10 ^ 15
+digits_small s t v r e f h = omega (arith, spelt_room 10 v t (10 ^ 15) r (lit≤ tt) (two_parts s t v e h) f)
 
 -- ---- the parts
 
@@ -87,31 +88,36 @@ module _ (w : List ℕ) (p f : ℕ) (s : Parts w p f) where
   short t =
       omega (arith, whole_length, part_length, ltb-true (p + (length w - f)) 16 (both (plain (take p w) && not (eqb (p + 1) (length w))) (ltb (p + (length w - f)) 16) t).1)
 
-  pub unsigned_is : pick test (decimal_from (spelt 10 (spelt 10 none (take p w)) (take (length w - f) (drop f w))) (length w - f)) bad ≡ unsigned_field w
+  pub unsigned_is : pick test (option_map (λ n. decimal_from n (length w - f)) (option_and_then (λ n. spelt 10 n (take (length w - f) (drop f w))) (spelt 10 0 (take p w)))) None ≡ unsigned_field w
   unfolding unsigned_field
-  unsigned_is = rw (← s.point, whole_length, rest_length, rest_is, ← (spelt_append 10 none (take p w) (drop (p + 1) w)))
+  unsigned_is = rw (← s.point, whole_length, rest_length, rest_is, ← (spelt_append 10 0 (take p w) (drop (p + 1) w)))
 
 -- ---- a quotient
-
-pub digits_number : (n : ℕ) → n < 10 ^ 15 → T (in_float binary64 (pos n))
-unfolding in_float
-digits_number n h = le→leb n (2 ^ 53) (omega arith)
 
 pub power_number : (k t : ℕ) → k ≤ 15 → t ≡ 10 ^ k → T (in_float binary64 (pos t))
 unfolding in_float
 power_number k t h e = le→leb t (2 ^ 53) (le_trans (le_of_eq e) (le_trans (pow-le-pow_right (lit< tt) h) (lit≤ tt)))
 
-module _ (d : Digits) (k : ℕ) where
-  pub taken : (t : ℕ) → d.value < 10 ^ 15 → k ≤ 15 → t ≡ 10 ^ k → d.good ≡ true → real (div binary64 (of_int binary64 (pos d.value)) (of_int binary64 (pos t))) ≡ decimal_from d k
-  unfolding decimal_from
-  taken t h g e y = rw (e, y) (ap real (once d.value k h g))
-
-  pub left : d.good ≡ false → bad ≡ decimal_from d k
-  unfolding decimal_from
-  left y = rw y
+pub taken : (n k t : ℕ) → n < 10 ^ 15 → k ≤ 15 → t ≡ 10 ^ k → div binary64 (of_int binary64 (pos n)) (of_int binary64 (pos t)) ≡ decimal_from n k
+unfolding decimal_from
+taken n k t h g e = rw e (once n k h g)
 
 -- ---- a minus
 
-pub minus_there : (w : List ℕ) → eqb (get_or w 0 0) 45 ≡ true → 1 ≤ length w
-minus_there [] e = absurd (false≢true e)
-minus_there (b ∷ w) e = omega arith
+turned : (a b : ℕ) → eqb a b ≡ eqb b a
+turned a b = go (eqb a b) (eqb b a) refl refl
+  where
+    go : (t u : Bool) → eqb a b ≡ t → eqb b a ≡ u → t ≡ u
+    go true true e f = refl
+    go true false e f = sym (eq-eqb b a (sym (eqb-true a b e))) ∙ f
+    go false true e f = sym e ∙ eq-eqb a b (sym (eqb-true b a f))
+    go false false e f = refl
+
+-- a word that begins with a minus
+pub begun : (w : List ℕ) → starts_with eqb w (45 ∷ []) ≡ eqb (get_or w 0 0) 45
+begun [] = refl
+begun (b ∷ w) = go (eqb 45 b) refl
+  where
+    go : (t : Bool) → eqb 45 b ≡ t → (t && bytes_eq [] (take 0 w)) ≡ eqb b 45
+    go true e = sym (turned b 45 ∙ e)
+    go false e = sym (turned b 45 ∙ e)

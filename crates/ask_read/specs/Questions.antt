@@ -1,11 +1,14 @@
 -- What a line asks: words with single spaces between, of which the first names the question and the others are its fields.
-use Rattle.std.specs.Prelude.{Bool, true, false, ◌&&◌, List, [], ◌∷◌, ℕ, suc, ◌-◌, eqb, leb, length, get_or, set, take, drop, replicate, Float}
+use Rattle.std.specs.Prelude.{Bool, true, false, ◌&&◌, Option, Some, None, option_map, List, [], ◌∷◌, map, ℕ, suc, ◌-◌, eqb, leb, length, get_or, set, take, drop, replicate, Float}
 use Prim.Native.String.{String}
 use Rattle.reply.specs.Choice.{pick}
 use Rattle.reply.specs.Text.{text}
+use Rattle.std.specs.Option.{is_some}
 use Rattle.ask_read.specs.declared.Field.{Field}
+use Rattle.ask_read.specs.declared.Field.TheVariants.{Number, Double}
 use Rattle.double.specs.Double.{nought}
-use Rattle.ask_read.specs.Words.{bad, number_field, double_field, same, flag_field}
+use Rattle.ask_read.specs.Words.{number_field, double_field, same, flag_field}
+use Rattle.ask_read.specs.declared.Kind.{Kind}
 use Rattle.ask_read.specs.declared.Asked.{Asked}
 use Rattle.ask_read.specs.declared.Asked.TheVariants.{Round, Centre, Meet, Turn, Step, Cross, Settle, Direction, Same, Nearest, Place, Corners, Hexagon, Pentagon, Root, Sphere, Globe6, Globe5, First, Help, Unreadable}
 use Rattle.ask_read.specs.declared.Question.{Question}
@@ -24,14 +27,23 @@ words (b ∷ bs) = pick (eqb b 32) ([] ∷ words bs) (onto b (words bs))
 
 -- ---- what is asked
 
--- a question: its name and the kinds of its fields, a letter for each: n a number, x a double, p for p or s, c for ccw or cw, y for no or yes
+-- a kind by its letter: n a number, x a double, p for p or s, c for ccw or cw, y for no or yes
+abbrev pub kind_of : ℕ → Kind
+kind_of letter =
+    pick (eqb letter 110) Kind.Number
+    (pick (eqb letter 120) Kind.Double
+    (pick (eqb letter 112) Kind.Grid
+    (pick (eqb letter 99) Kind.Turn
+    Kind.YesNo)))
+
+-- a question: its name and the kinds of its fields
 pub record Row : Type 0 where
   pub name : List ℕ
   pub asked : Asked
-  pub kinds : List ℕ
+  pub kinds : List Kind
 
 abbrev pub row : String → Asked → String → Row
-row name a kinds = record { name = text name; asked = a; kinds = text kinds }
+row name a kinds = record { name = text name; asked = a; kinds = map kind_of (text kinds) }
 
 abbrev pub rows : List Row
 rows =
@@ -66,13 +78,12 @@ unfoldable pub row_at : ℕ → Row
 row_at n = get_or rows n (row "" Unreadable "")
 
 -- a word as a field of a kind
-unfoldable pub field_of : ℕ → List ℕ → Field
-field_of kind w =
-    pick (eqb kind 110) (number_field w)
-    (pick (eqb kind 120) (double_field w)
-    (pick (eqb kind 112) (flag_field (text "p") (text "s") w)
-    (pick (eqb kind 99) (flag_field (text "ccw") (text "cw") w)
-    (flag_field (text "no") (text "yes") w))))
+unfoldable pub field_of : Kind → List ℕ → Option Field
+field_of Kind.Number w = option_map Number (number_field w)
+field_of Kind.Double w = option_map Double (double_field w)
+field_of Kind.Grid w = option_map Number (flag_field (text "p") (text "s") w)
+field_of Kind.Turn w = option_map Number (flag_field (text "ccw") (text "cw") w)
+field_of Kind.YesNo w = option_map Number (flag_field (text "no") (text "yes") w)
 
 -- ---- the question
 
@@ -88,33 +99,44 @@ unreadable = blank Unreadable
 
 -- a field at its place
 abbrev pub put : ℕ → Field → Question → Question
-put k f q = question q.asked (set q.numbers k f.number) (set q.doubles k f.double)
+put k (Number n) q = question q.asked (set q.numbers k n) q.doubles
+put k (Double x) q = question q.asked q.numbers (set q.doubles k x)
 
 -- the first word as a field, which no word is not; and the words after it
-abbrev pub first_field : ℕ → List (List ℕ) → Field
-first_field kind [] = bad
+abbrev pub first_field : Kind → List (List ℕ) → Option Field
+first_field kind [] = None
 first_field kind (w ∷ ws) = field_of kind w
 
 abbrev pub others : List (List ℕ) → List (List ℕ)
 others [] = []
 others (w ∷ ws) = ws
 
+-- what a field makes of a question; where there is none the line is unreadable
+abbrev pub with_field : Option Field → (Field → Question) → Question
+with_field None on = unreadable
+with_field (Some f) on = on f
+
 -- the question with its fields from place k on: a word for each kind, and no more
-unfoldable pub filled : ℕ → List ℕ → List (List ℕ) → Question → Question
+unfoldable pub filled : ℕ → List Kind → List (List ℕ) → Question → Question
 filled k [] [] q = q
 filled k [] (w ∷ ws) q = unreadable
 filled k (kind ∷ kinds) ws q =
-    pick (first_field kind ws).good (filled (suc k) kinds (others ws) (put k (first_field kind ws) q)) unreadable
+    with_field (first_field kind ws) (λ f. filled (suc k) kinds (others ws) (put k f q))
 
 -- whether there is a word for each kind, each a good field of it, and no more
-unfoldable pub readable : List ℕ → List (List ℕ) → Bool
+unfoldable pub readable : List Kind → List (List ℕ) → Bool
 readable [] [] = true
 readable [] (w ∷ ws) = false
-readable (kind ∷ kinds) ws = (first_field kind ws).good && readable kinds (others ws)
+readable (kind ∷ kinds) ws = is_some (first_field kind ws) && readable kinds (others ws)
 
 -- the fields of a row's question
 abbrev pub filled_by : Row → List (List ℕ) → Question
 filled_by r ws = filled 0 r.kinds ws (blank r.asked)
+
+-- the fields of the first row that a word names; a line that names none does not fit
+abbrev pub filled_in : List ℕ → List Row → List (List ℕ) → Question
+filled_in w [] ws = unreadable
+filled_in w (r ∷ rs) ws = pick (same w r.name) (filled_by r ws) (filled_in w rs ws)
 
 -- the first word names the question, the others are its fields
 abbrev pub of_words : List (List ℕ) → Question

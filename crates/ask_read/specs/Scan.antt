@@ -1,5 +1,5 @@
 -- Where a byte first stands in bytes, as `find` answers it.
-use Rattle.std.specs.Prelude.{Bool, true, false, List, [], ◌∷◌, ℕ, suc, eqb, take, drop}
+use Rattle.std.specs.Prelude.{Bool, true, false, Option, List, [], ◌∷◌, ℕ, suc, eqb, position, take, drop}
 
 -- the bytes from index f up to, not including, index t
 abbrev pub slice : ℕ → ℕ → List ℕ → List ℕ
@@ -14,3 +14,7 @@ index_after false i = suc i
 unfoldable pub index_of : ℕ → List ℕ → ℕ
 index_of b [] = 0
 index_of b (x ∷ xs) = index_after (eqb x b) (index_of b xs)
+
+-- the same index, where there is one
+unfoldable pub place : ℕ → List ℕ → Option ℕ
+place b l = position (λ x. eqb x b) l

@@ -1,12 +1,9 @@
 -- One word of a question as a field: a number, a double, or one of two words that stand for no and yes.
-use Rattle.std.specs.Prelude.{Bool, true, false, not, ◌&&◌, List, [], ◌∷◌, ◌++◌, ℕ, ◌+◌, ◌-◌, ◌*◌, ◌^◌, ltb, eqb, length, get_or, take, drop, Float}
+use Rattle.std.specs.Prelude.{Bool, true, false, not, ◌&&◌, Option, Some, None, option_map, option_and_then, List, [], ◌∷◌, ◌++◌, ℕ, ◌+◌, ◌-◌, ◌*◌, ◌^◌, ltb, eqb, length, get_or, take, drop, Float}
 use Rattle.std.specs.Float.{binary64}
 use Rattle.std.specs.Float.Ieee.{of_bits, round, neg}
 use Rattle.reply.specs.Choice.{pick}
-use Rattle.double.specs.Double.{nought}
 use Rattle.ask_read.specs.Scan.{index_of}
-use Rattle.ask_read.specs.declared.Digits.{Digits}
-use Rattle.ask_read.specs.declared.Field.{Field}
 
 -- ---- digits
 
@@ -18,51 +15,32 @@ digit_of b =
     (pick (ltb 64 b && ltb b 71) (b - 55)
     16))
 
-abbrev pub digits : ℕ → Bool → Digits
-digits v g = record { value = v; good = g }
-
--- no digit yet
-abbrev pub none : Digits
-none = digits 0 true
-
 -- one byte more, which is a digit of the base or spoils the number
-unfoldable pub with_digit : ℕ → Digits → ℕ → Digits
-with_digit base d b = pick (ltb (digit_of b) base) (digits (base * d.value + digit_of b) d.good) (digits d.value false)
+unfoldable pub with_digit : ℕ → ℕ → ℕ → Option ℕ
+with_digit base v b = pick (ltb (digit_of b) base) (Some (base * v + digit_of b)) None
 
 -- the number that all bytes spell in the base, after the digits read before them
-unfoldable pub spelt : ℕ → Digits → List ℕ → Digits
-spelt base d [] = d
-spelt base d (b ∷ bs) = spelt base (with_digit base d b) bs
+unfoldable pub spelt : ℕ → ℕ → List ℕ → Option ℕ
+spelt base v [] = Some v
+spelt base v (b ∷ bs) = option_and_then (λ n. spelt base n bs) (with_digit base v b)
 
 -- one byte, or several of which the first is not 0
 unfoldable pub plain : List ℕ → Bool
 plain w = pick (ltb (length w) 2) (eqb (length w) 1) (not (eqb (get_or w 0 0) 48))
 
--- ---- fields
-
-abbrev pub numeric : ℕ → Field
-numeric n = record { number = n; double = nought; good = true }
-
-abbrev pub real : Float → Field
-real x = record { number = 0; double = x; good = true }
-
--- no field
-abbrev pub bad : Field
-bad = record { number = 0; double = nought; good = false }
-
 -- ---- a number: decimal, 0..4294967295, no sign, no leading zero; ten digits hold them all (proofs/Numerals)
 
-unfoldable pub number_from : Digits → Field
-number_from d = pick (d.good && ltb d.value 4294967296) (numeric d.value) bad
+unfoldable pub number_from : ℕ → Option ℕ
+number_from n = pick (ltb n 4294967296) (Some n) None
 
-unfoldable pub number_field : List ℕ → Field
-number_field w = pick (ltb (length w) 11 && plain w) (number_from (spelt 10 none w)) bad
+unfoldable pub number_field : List ℕ → Option ℕ
+number_field w = pick (ltb (length w) 11 && plain w) (option_and_then number_from (spelt 10 0 w)) None
 
 -- ---- a decimal
 
 -- the digits' number with k of the digits after the point: the double that is nearest to it over 10^k, of two as near the even one
-unfoldable pub decimal_from : Digits → ℕ → Field
-decimal_from d k = pick d.good (real (round binary64 false d.value (10 ^ k))) bad
+unfoldable pub decimal_from : ℕ → ℕ → Float
+decimal_from n k = round binary64 false n (10 ^ k)
 
 -- the digits before the point, 46, and those after it
 abbrev pub whole_of : List ℕ → List ℕ
@@ -72,27 +50,32 @@ abbrev pub decimals_of : List ℕ → List ℕ
 decimals_of w = drop (index_of 46 w + 1) w
 
 -- digits without a leading zero, and, if there is a point, digits after it; at most 15 in all
-unfoldable pub unsigned_field : List ℕ → Field
+unfoldable pub unsigned_field : List ℕ → Option Float
 unsigned_field w =
     pick (plain (whole_of w) && not (eqb (index_of 46 w + 1) (length w)) && ltb (length (whole_of w) + length (decimals_of w)) 16)
-    (decimal_from (spelt 10 none (whole_of w ++ decimals_of w)) (length (decimals_of w)))
-    bad
+    (option_map (λ n. decimal_from n (length (decimals_of w))) (spelt 10 0 (whole_of w ++ decimals_of w)))
+    None
 
--- minus a double; what is no field stays none
-abbrev pub negated : Field → Field
-negated f = pick f.good (real (neg f.double)) bad
+-- minus a double; what is none stays none
+abbrev pub negated : Option Float → Option Float
+negated x = option_map neg x
 
 -- a minus, 45, may stand before them
-unfoldable pub decimal_field : List ℕ → Field
+unfoldable pub decimal_field : List ℕ → Option Float
 decimal_field w = pick (eqb (get_or w 0 0) 45) (negated (unsigned_field (drop 1 w))) (unsigned_field w)
 
 -- ---- a double: the 16 hex digits of its bits, or a decimal
 
-unfoldable pub bits_of : List ℕ → Digits
-bits_of w = pick (eqb (length w) 16) (spelt 16 none w) (digits 0 false)
+unfoldable pub bits_of : List ℕ → Option ℕ
+bits_of w = pick (eqb (length w) 16) (spelt 16 0 w) None
 
-unfoldable pub double_field : List ℕ → Field
-double_field w = pick (bits_of w).good (real (of_bits binary64 (bits_of w).value)) (decimal_field w)
+-- the double of a pattern, or else the one given
+abbrev pub of_pattern : Option ℕ → Option Float → Option Float
+of_pattern (Some n) other = Some (of_bits binary64 n)
+of_pattern None other = other
+
+unfoldable pub double_field : List ℕ → Option Float
+double_field w = of_pattern (bits_of w) (decimal_field w)
 
 -- ---- a flag: the word for 0 or the word for 1
 
@@ -102,5 +85,5 @@ same [] (b ∷ bs) = false
 same (a ∷ at) [] = false
 same (a ∷ at) (b ∷ bs) = eqb a b && same at bs
 
-unfoldable pub flag_field : List ℕ → List ℕ → List ℕ → Field
-flag_field off on w = pick (same w off) (numeric 0) (pick (same w on) (numeric 1) bad)
+unfoldable pub flag_field : List ℕ → List ℕ → List ℕ → Option ℕ
+flag_field off on w = pick (same w off) (Some 0) (pick (same w on) (Some 1) None)

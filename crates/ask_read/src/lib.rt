@@ -1,26 +1,28 @@
 // A line of a question, lent as a slice of any length and any bytes: its words, read as fields, and what it asks.
 #![tactic(auto)]
 
-ghost use Rattle.std.specs.Prelude.{◌≡◌, ◌+◌, ◌*◌, ◌^◌, ◌≤◌, ◌<◌, length, get_or, take, eqb};
+ghost use Rattle.std.specs.Prelude.{◌≡◌, ◌+◌, ◌*◌, ◌^◌, ◌≤◌, ◌<◌, Some, None, MatchOption, length, take};
 ghost use Rattle.std.specs.Float.{binary64};
 ghost use Rattle.std.specs.Float.Ieee.{of_bits};
-ghost use Rattle.ask_read.specs.Scan.{slice, index_of};
-ghost use Rattle.ask_read.specs.Words.{digit_of, with_digit, spelt, plain, numeric, real, bad, number_from, number_field, decimal_from, unsigned_field, negated, decimal_field, bits_of, double_field, same, flag_field};
-ghost use Rattle.ask_read.specs.Questions.{rows, row_of, row_at, field_of, blank, unreadable, first_field, others, filled, filled_by, question_of, settle_of, words_from, bare};
+ghost use Rattle.ask_read.specs.Scan.{slice, index_of, place};
+ghost use Rattle.ask_read.specs.Words.{digit_of, with_digit, spelt, plain, number_field, decimal_from, unsigned_field, decimal_field, bits_of, double_field, same, flag_field};
+ghost use Rattle.ask_read.specs.Questions.{rows, field_of, blank, unreadable, first_field, others, filled, filled_in, question_of, settle_of, words_from, bare};
 
-// What a word says: a number or a flag, a double, and whether it says anything; zeros elsewhere.
-#[derive(Clone, Copy)]
-pub struct Field {
-    pub number: u32,
-    pub double: f64,
-    pub good: bool,
+use Kind::{Double, Grid, Number, Turn, YesNo};
+
+// What a word says: a number or a flag (0 or 1), or a double.
+#[derive(Clone, Copy, Debug, PartialEq)]
+pub enum Field {
+    Number(u32),
+    Double(f64),
 }
 
-// The number of the digits read so far, and whether all of them are digits.
-#[derive(Clone, Copy)]
-struct Digits {
-    pub value: u64,
-    pub good: bool,
+// Where a byte first stands in bytes, if it does.
+#[tactic(auto, unfolding(crate::specs::Scan::place))]
+fn place_of(s: &[u8], b: u8) -> Option<usize>
+    ensures { result ≡ place b s.now }
+{
+    s.iter().position(|x| *x == b)
 }
 
 // The first index from `from` up to `end` at which a byte stands, or `end` where there is none.
@@ -28,62 +30,51 @@ pub fn find(s: &[u8], from: usize, end: usize, b: u8) -> usize
     requires { (from ≤ end) × (end ≤ length s.now) }
     ensures { (result ≡ from + index_of b (slice from end s.now)) × (result ≤ end) }
 {
-    let mut i = from;
-    while i < end {
-        if s[i] == b {
-            return i;
-        }
-        i += 1;
+    match place_of(&s[from..end], b) {
+        Some(i) => from + i,
+        None => end,
     }
-    i
 }
 
+// What a byte counts for as a digit; 16, no digit of any base here, where it is none.
+#[tactic(auto, unfolding(crate::specs::Words::digit_of))]
 fn digit(b: u8) -> u64
     ensures { result ≡ digit_of b }
 {
-    if (47 < b) & (b < 58) {
-        return (b - 48) as u64;
+    match b {
+        b'0'..=b'9' => u64::from(b - b'0'),
+        b'a'..=b'f' => u64::from(b - b'a' + 10),
+        b'A'..=b'F' => u64::from(b - b'A' + 10),
+        _ => 16,
     }
-    if (96 < b) & (b < 103) {
-        return (b - 87) as u64;
-    }
-    if (64 < b) & (b < 71) {
-        return (b - 55) as u64;
-    }
-    16
 }
 
-fn with_digit(base: u64, d: Digits, b: u8) -> Digits
-    requires { (d.value + 1) * base ≤ 2 ^ 64 }
-    ensures { result ≡ with_digit base d b }
+#[tactic(auto, unfolding(crate::specs::Words::with_digit))]
+fn with_digit(base: u64, value: u64, b: u8) -> Option<u64>
+    requires { (value + 1) * base ≤ 2 ^ 64 }
+    ensures { result ≡ with_digit base value b }
 {
     let x = digit(b);
     if x < base {
-        return Digits {
-            value: base * d.value + x,
-            good: d.good,
-        };
+        return Some(base * value + x);
     }
-    Digits {
-        value: d.value,
-        good: false,
-    }
+    None
 }
 
-fn spell(base: u64, d: Digits, s: &[u8]) -> Digits
-    requires { (1 ≤ base) × ((d.value + 1) * base ^ length s.now ≤ 2 ^ 64) }
-    ensures { result ≡ spelt base d s.now }
+// The number that all bytes spell, after the digits read before them.
+fn spell(base: u64, before: u64, s: &[u8]) -> Option<u64>
+    requires { (1 ≤ base) × ((before + 1) * base ^ length s.now ≤ 2 ^ 64) }
+    ensures { result ≡ spelt base before s.now }
 {
-    let mut read = d;
-    let mut i = 0;
-    while i < s.len() {
-        read = with_digit(base, read, s[i]);
-        i += 1;
+    let mut value = before;
+    for &b in s {
+        value = with_digit(base, value, b)?;
     }
-    read
+    Some(value)
 }
 
 // Whether digits have no leading zero: a 0 that stands first is the only one.
+#[tactic(auto, unfolding(crate::specs::Words::plain))]
 fn is_plain(s: &[u8]) -> bool
     ensures { result ≡ plain s.now }
 {
@@ -93,157 +84,63 @@ fn is_plain(s: &[u8]) -> bool
     s[0] != b'0'
 }
 
-fn numeric(number: u32) -> Field
-    ensures { result ≡ numeric number }
-{
-    Field {
-        number,
-        double: 0.0,
-        good: true,
-    }
-}
-
-fn real(double: f64) -> Field
-    ensures { result ≡ real double }
-{
-    Field {
-        number: 0,
-        double,
-        good: true,
-    }
-}
-
-fn not_good() -> Field
-    ensures { result ≡ bad }
-{
-    Field {
-        number: 0,
-        double: 0.0,
-        good: false,
-    }
-}
-
-fn number_from(d: Digits) -> Field
-    ensures { result ≡ number_from d }
-{
-    if d.good & (d.value < 4294967296) {
-        return numeric(d.value as u32);
-    }
-    not_good()
-}
-
 // A decimal number that fits 32 bits.
-fn number(s: &[u8]) -> Field
+fn number(s: &[u8]) -> Option<u32>
     ensures { result ≡ number_field s.now }
 {
     let shaped = is_plain(s);
     if (s.len() < 11) & shaped {
-        let none = Digits {
-            value: 0,
-            good: true,
-        };
-        return number_from(spell(10, none, s));
+        let value = spell(10, 0, s)?;
+        return u32::try_from(value).ok();
     }
-    not_good()
-}
-
-fn tens(k: usize) -> u64
-    requires { k ≤ 15 }
-    ensures { result ≡ 10 ^ k }
-{
-    let mut value: u64 = 1;
-    let mut i = 0;
-    while i < k {
-        value = 10 * value;
-        i += 1;
-    }
-    value
+    None
 }
 
 // Digits with k of them after the point. A double holds both numbers exactly, so that their quotient is rounded once: it is the nearest double.
-fn decimal_from(d: Digits, k: usize) -> Field
-    requires { (d.value < 10 ^ 15) × (k ≤ 15) }
-    ensures { result ≡ decimal_from d k }
+fn decimal_from(value: u64, k: u32) -> f64
+    requires { (value < 10 ^ 15) × (k ≤ 15) }
+    ensures { result ≡ decimal_from value k }
 {
-    let value = d.value;
-    let scale = tens(k);
-    if d.good {
-        return real((value as f64) / (scale as f64));
-    }
-    not_good()
+    let scale = 10u64.pow(k);
+    (value as f64) / (scale as f64)
 }
 
-// Where the digits after a point at p begin: there is none at the end.
-fn after(p: usize, len: usize) -> usize
-    requires { p ≤ len }
-    ensures { (result ≤ p + 1) × (result ≤ len) × (p ≤ result) × ((p < len → result ≡ p + 1)) }
-{
-    if p < len {
-        return p + 1;
-    }
-    p
-}
-
-fn unsigned(s: &[u8]) -> Field
+fn unsigned(s: &[u8]) -> Option<f64>
     ensures { result ≡ unsigned_field s.now }
 {
     let len = s.len();
     let point = find(s, 0, len, b'.');
-    let from = after(point, len);
+    // The digits after the point; at the end there is none.
+    let from = len.min(point + 1);
     let shaped = is_plain(&s[..point]);
     if shaped & (point + 1 != len) & (point + (len - from) < 16) {
-        let none = Digits {
-            value: 0,
-            good: true,
-        };
-        let whole = spell(10, none, &s[..point]);
-        let all = spell(10, whole, &s[from..]);
-        return decimal_from(all, len - from);
+        let whole = spell(10, 0, &s[..point])?;
+        let all = spell(10, whole, &s[from..])?;
+        let x = decimal_from(all, (len - from) as u32);
+        return Some(x);
     }
-    not_good()
+    None
 }
 
-fn has_minus(s: &[u8]) -> bool
-    ensures { result ≡ eqb (get_or s.now 0 0) 45 }
-{
-    if 0 < s.len() {
-        return s[0] == b'-';
-    }
-    false
-}
-
-fn negated(f: Field) -> Field
-    ensures { result ≡ negated f }
-{
-    if f.good {
-        return real(-f.double);
-    }
-    not_good()
-}
-
-fn decimal(s: &[u8]) -> Field
+#[tactic(auto, unfolding(crate::specs::Words::decimal_field))]
+fn decimal(s: &[u8]) -> Option<f64>
     ensures { result ≡ decimal_field s.now }
 {
-    if has_minus(s) {
-        return negated(unsigned(&s[1..]));
+    if s.starts_with(b"-") {
+        let x = unsigned(&s[1..])?;
+        return Some(-x);
     }
     unsigned(s)
 }
 
-fn bits(s: &[u8]) -> Digits
+#[tactic(auto, unfolding(crate::specs::Words::bits_of))]
+fn bits(s: &[u8]) -> Option<u64>
     ensures { result ≡ bits_of s.now }
 {
     if s.len() == 16 {
-        let none = Digits {
-            value: 0,
-            good: true,
-        };
-        return spell(16, none, s);
+        return spell(16, 0, s);
     }
-    Digits {
-        value: 0,
-        good: false,
-    }
+    None
 }
 
 // The double of a pattern. There is one NaN: every pattern of one gives it.
@@ -257,13 +154,13 @@ fn of_bits(n: u64) -> f64
 }
 
 // A double: the 16 hex digits of its bits, or a decimal.
-fn double(s: &[u8]) -> Field
+#[tactic(auto, unfolding(crate::specs::Words::double_field))]
+fn double(s: &[u8]) -> Option<f64>
     ensures { result ≡ double_field s.now }
 {
-    let pattern = bits(s);
-    if pattern.good {
-        let x = of_bits(pattern.value);
-        return real(x);
+    if let Some(n) = bits(s) {
+        let x = of_bits(n);
+        return Some(x);
     }
     decimal(s)
 }
@@ -272,34 +169,25 @@ fn double(s: &[u8]) -> Field
 fn is_same(s: &[u8], t: &[u8]) -> bool
     ensures { result ≡ same s.now t.now }
 {
-    if s.len() != t.len() {
-        return false;
-    }
-    let mut i = 0;
-    while i < s.len() {
-        if s[i] != t[i] {
-            return false;
-        }
-        i += 1;
-    }
-    true
+    s == t
 }
 
 // A flag: 0 for the one word, 1 for the other.
-fn flag(s: &[u8], no: &[u8], yes: &[u8]) -> Field
+#[tactic(auto, unfolding(crate::specs::Words::flag_field))]
+fn flag(s: &[u8], no: &[u8], yes: &[u8]) -> Option<u32>
     ensures { result ≡ flag_field no.now yes.now s.now }
 {
     if is_same(s, no) {
-        return numeric(0);
+        return Some(0);
     }
     if is_same(s, yes) {
-        return numeric(1);
+        return Some(1);
     }
-    not_good()
+    None
 }
 
 // Which question a line asks.
-#[derive(Clone, Copy)]
+#[derive(Clone, Copy, Debug, PartialEq, Eq)]
 pub enum Asked {
     Round,
     Centre,
@@ -325,11 +213,21 @@ pub enum Asked {
 }
 
 // A question: what is asked, and its fields by their places in the line: a number or a flag (0 or 1) in `numbers`, a double in `doubles`; zeros elsewhere.
-#[derive(Clone, Copy)]
+#[derive(Clone, Copy, Debug, PartialEq)]
 pub struct Question {
     pub asked: Asked,
     pub numbers: [u32; 9],
     pub doubles: [f64; 9],
+}
+
+// What a word has to be: a number, a double, or one of two words: p or s for the grid, ccw or cw for the turn, no or yes.
+#[derive(Clone, Copy, Debug, PartialEq, Eq)]
+pub enum Kind {
+    Number,
+    Double,
+    Grid,
+    Turn,
+    YesNo,
 }
 
 // A word read as a field, and the index where the next word begins.
@@ -339,15 +237,16 @@ struct Taken {
     pub next: usize,
 }
 
-fn field_of(kind: u8, word: &[u8]) -> Field
+#[tactic(auto, using(crate::proofs::Filling::mapped), unfolding(crate::specs::Questions::field_of))]
+fn field_of(kind: Kind, word: &[u8]) -> Option<Field>
     ensures { result ≡ field_of kind word.now }
 {
     match kind {
-        b'n' => number(word),
-        b'x' => double(word),
-        b'p' => flag(word, b"p", b"s"),
-        b'c' => flag(word, b"ccw", b"cw"),
-        _ => flag(word, b"no", b"yes"),
+        Kind::Number => number(word).map(Field::Number),
+        Kind::Double => double(word).map(Field::Double),
+        Kind::Grid => flag(word, b"p", b"s").map(Field::Number),
+        Kind::Turn => flag(word, b"ccw", b"cw").map(Field::Number),
+        Kind::YesNo => flag(word, b"no", b"yes").map(Field::Number),
     }
 }
 
@@ -362,42 +261,39 @@ fn unread() -> Question
 }
 
 // The word at an index, read as a field; past the end there is none.
-fn take_field(kind: u8, line: &[u8], at: usize) -> Taken
+fn take_field(kind: Kind, line: &[u8], at: usize) -> Option<Taken>
     requires { at ≤ length line.now + 1 }
-    ensures { (result.field ≡ first_field kind (words_from line.now at)) × (words_from line.now result.next ≡ others (words_from line.now at)) × (result.next ≤ length line.now + 1) }
+    ensures { MatchOption result (first_field kind (words_from line.now at) ≡ None) (λ t. (first_field kind (words_from line.now at) ≡ Some t.field) × (words_from line.now t.next ≡ others (words_from line.now at)) × (t.next ≤ length line.now + 1)) }
 {
     let len = line.len();
     if len < at {
-        let field = not_good();
-        return Taken { field, next: at };
+        return None;
     }
     let end = find(line, at, len, b' ');
-    let field = field_of(kind, &line[at..end]);
-    Taken {
+    let field = field_of(kind, &line[at..end])?;
+    Some(Taken {
         field,
         next: end + 1,
-    }
+    })
 }
 
 // The fields, each of its kind, from an index on.
-fn fill(asked: Asked, kinds: &[u8], line: &[u8], from: usize) -> Question
+fn fill(asked: Asked, kinds: &[Kind], line: &[u8], from: usize) -> Question
     requires { (length kinds.now ≤ 9) × (from ≤ length line.now + 1) }
     ensures { result ≡ filled 0 kinds.now (words_from line.now from) (blank asked) }
 {
     let mut numbers = [0u32; 9];
     let mut doubles = [0.0; 9];
     let mut at = from;
-    let mut k = 0;
-    while k < kinds.len() {
-        let taken = take_field(kinds[k], line, at);
-        let field = taken.field;
-        if !field.good {
+    for (k, &kind) in kinds.iter().enumerate() {
+        let Some(taken) = take_field(kind, line, at) else {
             return unread();
+        };
+        match taken.field {
+            Field::Number(n) => numbers[k] = n,
+            Field::Double(x) => doubles[k] = x,
         }
-        numbers[k] = field.number;
-        doubles[k] = field.double;
         at = taken.next;
-        k += 1;
     }
     if at <= line.len() {
         return unread();
@@ -409,88 +305,71 @@ fn fill(asked: Asked, kinds: &[u8], line: &[u8], from: usize) -> Question
     }
 }
 
-// What the tables say of a row: its name and the kinds of its fields, each in nine bytes with blanks after it.
-fn row_of(word: &[u8]) -> usize
-    ensures { (result ≡ row_of word.now rows) × (result ≤ 20) }
-{
-    let names: &[u8] =
-        b"round    centre   meet     turn     step     cross    settle   directionsame     nearest  place    corners  hexagon  pentagon root     sphere   globe6   globe5   first    help     ";
-    let mut n = 0;
-    while n < 20 {
-        let end = find(names, 9 * n, 9 * n + 9, b' ');
-        if is_same(word, &names[9 * n..end]) {
-            return n;
-        }
-        n += 1;
-    }
-    n
-}
+// The kinds of the fields of the questions whose fields are not all of one kind.
+const TURN: [Kind; 5] = [Number, Number, Number, Number, Turn];
 
-fn asked_at(row: usize) -> Asked
-    ensures { result ≡ (row_at row).asked }
-{
-    match row {
-        0 => Asked::Round,
-        1 => Asked::Centre,
-        2 => Asked::Meet,
-        3 => Asked::Turn,
-        4 => Asked::Step,
-        5 => Asked::Cross,
-        6 => Asked::Settle,
-        7 => Asked::Direction,
-        8 => Asked::Same,
-        9 => Asked::Nearest,
-        10 => Asked::Place,
-        11 => Asked::Corners,
-        12 => Asked::Hexagon,
-        13 => Asked::Pentagon,
-        14 => Asked::Root,
-        15 => Asked::Sphere,
-        16 => Asked::Globe6,
-        17 => Asked::Globe5,
-        18 => Asked::First,
-        19 => Asked::Help,
-        _ => Asked::Unreadable,
-    }
-}
+const STEP: [Kind; 7] = [Number, Number, Grid, Number, Number, Number, Number];
 
-fn fill_row(row: usize, line: &[u8], from: usize) -> Question
-    requires { (row ≤ 20) × (from ≤ length line.now + 1) }
-    ensures { result ≡ filled_by (row_at row) (words_from line.now from) }
+const CROSS: [Kind; 7] = [Number, Number, Grid, Number, Number, Number, YesNo];
+
+const SETTLE: [Kind; 6] = [Number, Number, Grid, Number, Number, Number];
+
+const PLACE: [Kind; 4] = [Number, Double, Double, Double];
+
+const SPHERE: [Kind; 4] = [Number, Number, Double, Double];
+
+// The question that a word names, with the fields from an index on: a row for each, with the kinds of its fields.
+fn fill_named(word: &[u8], line: &[u8], from: usize) -> Question
+    requires { from ≤ length line.now + 1 }
+    ensures { result ≡ filled_in word.now rows (words_from line.now from) }
 {
-    let kinds: &[u8] =
-        b"xx       nnn      xxxxxxxx nnnnc    nnpnnnn  nnpnnny  nnpnnn   nn       nnnnnnnnnxxx      nxxx     nnnnn    nnnnnnn  nnnnnnn  x        nnxx     nnnnnnn  nnnnnnn  nnnnn                      ";
-    let end = find(kinds, 9 * row, 9 * row + 9, b' ');
-    let asked = asked_at(row);
-    fill(asked, &kinds[9 * row..end], line, from)
+    match word {
+        w if is_same(w, b"round") => fill(Asked::Round, &[Double; 2], line, from),
+        w if is_same(w, b"centre") => fill(Asked::Centre, &[Number; 3], line, from),
+        w if is_same(w, b"meet") => fill(Asked::Meet, &[Double; 8], line, from),
+        w if is_same(w, b"turn") => fill(Asked::Turn, &TURN, line, from),
+        w if is_same(w, b"step") => fill(Asked::Step, &STEP, line, from),
+        w if is_same(w, b"cross") => fill(Asked::Cross, &CROSS, line, from),
+        w if is_same(w, b"settle") => fill(Asked::Settle, &SETTLE, line, from),
+        w if is_same(w, b"direction") => fill(Asked::Direction, &[Number; 2], line, from),
+        w if is_same(w, b"same") => fill(Asked::Same, &[Number; 9], line, from),
+        w if is_same(w, b"nearest") => fill(Asked::Nearest, &[Double; 3], line, from),
+        w if is_same(w, b"place") => fill(Asked::Place, &PLACE, line, from),
+        w if is_same(w, b"corners") => fill(Asked::Corners, &[Number; 5], line, from),
+        w if is_same(w, b"hexagon") => fill(Asked::Hexagon, &[Number; 7], line, from),
+        w if is_same(w, b"pentagon") => fill(Asked::Pentagon, &[Number; 7], line, from),
+        w if is_same(w, b"root") => fill(Asked::Root, &[Double], line, from),
+        w if is_same(w, b"sphere") => fill(Asked::Sphere, &SPHERE, line, from),
+        w if is_same(w, b"globe6") => fill(Asked::Globe6, &[Number; 7], line, from),
+        w if is_same(w, b"globe5") => fill(Asked::Globe5, &[Number; 7], line, from),
+        w if is_same(w, b"first") => fill(Asked::First, &[Number; 5], line, from),
+        w if is_same(w, b"help") => fill(Asked::Help, &[], line, from),
+        _ => unread(),
+    }
 }
 
 // The question of a line, or that it is unreadable.
 pub fn read_question(line: &[u8]) -> Question
     ensures { result ≡ question_of line.now }
 {
-    let len = line.len();
-    let end = find(line, 0, len, b' ');
-    let row = row_of(&line[..end]);
-    fill_row(row, line, end + 1)
+    let end = find(line, 0, line.len(), b' ');
+    fill_named(&line[..end], line, end + 1)
 }
 
 // A line of the fields of `settle` alone, without its name.
 pub fn read_settle(line: &[u8]) -> Question
     ensures { result ≡ settle_of line.now }
 {
-    fill_row(6, line, 0)
+    fill(Asked::Settle, &SETTLE, line, 0)
 }
 
 // How many bytes a line has without a byte that ends it: a newline, or the carriage return that belongs to one.
+#[tactic(auto, unfolding(crate::specs::Questions::bare))]
 pub fn without_end(line: &[u8], end: u8) -> usize
     ensures { (result ≤ length line.now) × (take result line.now ≡ bare end line.now) }
 {
-    let len = line.len();
-    if 0 < len {
-        if line[len - 1] == end {
-            return len - 1;
-        }
+    match line {
+        [rest @ .., last] if *last == end => rest.len(),
+        _ => line.len(),
     }
-    len
 }

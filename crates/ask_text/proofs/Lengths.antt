@@ -9,7 +9,8 @@ use Rattle.reply.specs.Choice.{pick}
 use Rattle.text.specs.Numbers.{space}
 use Rattle.text.proofs.Decimals.{short20}
 use Rattle.text.proofs.Hexadecimals.{hex_length}
-use Rattle.ask_text.specs.Texts.{overage_text, agreed_text, mark_text, value_text, field_text}
+use Rattle.ask_text.specs.declared.Kind.{Kind}
+use Rattle.ask_text.specs.Texts.{overage_text, agreed_text, mark_text, kind_text, kind_of, value_text, field_text}
 
 -- x has at most n bytes
 record Upto (n : ℕ) (x : List ℕ) : Type 0 where
@@ -19,14 +20,18 @@ either : (b : Bool) {n : ℕ} {x y : List ℕ} → Upto n x → Upto n y → Upt
 either true h g = h
 either false h g = g
 
+kind_short : (kind : Kind) (v : ℕ) → v < 18446744073709551616 → Upto 20 (kind_text kind v)
+unfolding overage_text agreed_text mark_text
+kind_short Kind.Number v h = record { short = short20 v h }
+kind_short Kind.Double v h = record { short = omega (arith, hex_length v) }
+kind_short Kind.Overage v h =
+    either (eqb v 0) (record { short = omega arith }) (either (eqb v 1) (record { short = omega arith }) (record { short = omega arith }))
+kind_short Kind.Agreed v h = either (eqb v 1) (record { short = omega arith }) (record { short = omega arith })
+kind_short Kind.Mark v h = either (eqb v 1) (record { short = omega arith }) (record { short = omega arith })
+
 value_short : (kind v : ℕ) → v < 18446744073709551616 → Upto 20 (value_text kind v)
-unfolding value_text overage_text agreed_text mark_text
-value_short kind v h =
-    either (eqb kind 120) (record { short = omega (arith, hex_length v) })
-    (either (eqb kind 111)
-    (either (eqb v 0) (record { short = omega arith }) (either (eqb v 1) (record { short = omega arith }) (record { short = omega arith })))
-    (either (eqb kind 97) (either (eqb v 1) (record { short = omega arith }) (record { short = omega arith }))
-    (either (eqb kind 109) (either (eqb v 1) (record { short = omega arith }) (record { short = omega arith })) (record { short = short20 v h }))))
+unfolding value_text
+value_short kind v h = kind_short (kind_of kind) v h
 
 -- with the space before it 21
 spaced : (b : Bool) (x : List ℕ) → Upto 20 x → length (pick b x (space ∷ x)) ≤ 21

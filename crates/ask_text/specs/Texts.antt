@@ -2,6 +2,7 @@
 use Rattle.std.specs.Prelude.{List, [], ◌∷◌, ◌++◌, ℕ, ◌-◌, eqb, get_or}
 use Rattle.reply.specs.Choice.{pick}
 use Rattle.reply.specs.Text.{text}
+use Rattle.ask_text.specs.declared.Kind.{Kind}
 use Rattle.text.specs.Numbers.{decimal, hex, field, space, newline}
 
 -- ---- a value
@@ -16,11 +17,22 @@ agreed_text v = pick (eqb v 1) (text "yes") (text "no")
 unfoldable pub mark_text : ℕ → List ℕ
 mark_text v = pick (eqb v 1) (text "corner") (text "crossing")
 
--- a value by its kind's letter: x a double's bits, o, a and m the words above, n a number
+-- a value by its kind
+abbrev pub kind_text : Kind → ℕ → List ℕ
+kind_text Kind.Number v = decimal v
+kind_text Kind.Double v = hex v
+kind_text Kind.Overage v = overage_text v
+kind_text Kind.Agreed v = agreed_text v
+kind_text Kind.Mark v = mark_text v
+
+-- a kind by its letter: x a double's bits, o, a and m the words above, n a number
+abbrev pub kind_of : ℕ → Kind
+kind_of letter =
+    pick (eqb letter 120) Kind.Double
+    (pick (eqb letter 111) Kind.Overage (pick (eqb letter 97) Kind.Agreed (pick (eqb letter 109) Kind.Mark Kind.Number)))
+
 unfoldable pub value_text : ℕ → ℕ → List ℕ
-value_text kind v =
-    pick (eqb kind 120) (hex v)
-    (pick (eqb kind 111) (overage_text v) (pick (eqb kind 97) (agreed_text v) (pick (eqb kind 109) (mark_text v) (decimal v))))
+value_text kind v = kind_text (kind_of kind) v
 
 -- a space stands before each value but the first
 unfoldable pub field_text : ℕ → ℕ → ℕ → List ℕ

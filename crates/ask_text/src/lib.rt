@@ -1,54 +1,72 @@
 // How the desk tool's answers are written into a lent buffer: a value by the letter of its kind, and a refusal's line.
 #![tactic(auto)]
 
-ghost use Rattle.std.specs.Prelude.{◌+◌, ◌≤◌, ◌<◌, length};
-ghost use Rattle.reply.specs.Choice.{pick};
+ghost use Rattle.std.specs.Prelude.{◌≡◌, ◌+◌, ◌≤◌, ◌<◌, length};
 ghost use Rattle.text.specs.Writing.{PutAt};
-ghost use Rattle.ask_text.specs.Texts.{overage_text, value_text, field_text, name_of, refused_text};
+ghost use Rattle.ask_text.specs.Texts.{overage_text, kind_of, kind_text, field_text, name_of, refused_text};
 
-fn put_either(buf: &mut [u8], at: usize, first: bool, a: &[u8], b: &[u8]) -> usize
-    requires { (at + length a.now ≤ length buf.old) × (at + length b.now ≤ length buf.old) }
-    ensures { PutAt (pick first a.now b.now) buf.old buf.new at result }
-{
-    if first {
-        return text::put_word(buf, at, a);
-    }
-    text::put_word(buf, at, b)
+// What a value is written as: a number, a double by its bits, or a word for how a crossing ended, whether corners agree, or what a point is.
+#[derive(Clone, Copy, Debug, PartialEq, Eq)]
+enum Kind {
+    Number,
+    Double,
+    Overage,
+    Agreed,
+    Mark,
 }
 
+impl From<u8> for Kind {
+    // The kind that a letter stands for; a number where it is none of the others.
+    fn from(letter: u8) -> Kind
+        ensures { result ≡ kind_of letter }
+    {
+        match letter {
+            b'x' => Kind::Double,
+            b'o' => Kind::Overage,
+            b'a' => Kind::Agreed,
+            b'm' => Kind::Mark,
+            _ => Kind::Number,
+        }
+    }
+}
+
+#[tactic(auto, unfolding(crate::specs::Texts::overage_text))]
 fn put_overage(buf: &mut [u8], at: usize, v: u64) -> usize
     requires { at + 20 ≤ length buf.old }
     ensures { PutAt (overage_text v) buf.old buf.new at result }
 {
-    if v == 0 {
-        return text::put_word(buf, at, b"None");
+    match v {
+        0 => text::put_word(buf, at, b"None"),
+        1 => text::put_word(buf, at, b"FaceEdge"),
+        _ => text::put_word(buf, at, b"NewFace"),
     }
-    put_either(buf, at, v == 1, b"FaceEdge", b"NewFace")
 }
 
-fn put_value(buf: &mut [u8], at: usize, kind: u8, v: u64) -> usize
+#[tactic(auto, unfolding(crate::specs::Texts::agreed_text, crate::specs::Texts::mark_text))]
+fn put_value(buf: &mut [u8], at: usize, kind: Kind, v: u64) -> usize
     requires { at + 20 ≤ length buf.old }
-    ensures { PutAt (value_text kind v) buf.old buf.new at result }
+    ensures { PutAt (kind_text kind v) buf.old buf.new at result }
 {
     match kind {
-        b'x' => text::put_hex(buf, at, v),
-        b'o' => put_overage(buf, at, v),
-        b'a' => put_either(buf, at, v == 1, b"yes", b"no"),
-        b'm' => put_either(buf, at, v == 1, b"corner", b"crossing"),
-        _ => text::put_number(buf, at, v),
+        Kind::Number => text::put_number(buf, at, v),
+        Kind::Double => text::put_hex(buf, at, v),
+        Kind::Overage => put_overage(buf, at, v),
+        Kind::Agreed => text::put_word(buf, at, if v == 1 { b"yes" } else { b"no" }),
+        Kind::Mark => text::put_word(buf, at, if v == 1 { b"corner" } else { b"crossing" }),
     }
 }
 
-// A value, with a space before each but the first.
+// A value by the letter of its kind, with a space before each but the first.
+#[tactic(auto, unfolding(crate::specs::Texts::field_text, crate::specs::Texts::value_text))]
 pub fn put_field(buf: &mut [u8], at: usize, k: usize, kind: u8, v: u64) -> usize
     requires { at + 21 ≤ length buf.old }
     ensures { PutAt (field_text k kind v) buf.old buf.new at result }
 {
     if k == 0 {
-        return put_value(buf, at, kind, v);
+        return put_value(buf, at, Kind::from(kind), v);
     }
     let next = text::put_byte(buf, at, b' ');
-    put_value(buf, next, kind, v)
+    put_value(buf, next, Kind::from(kind), v)
 }
 
 fn put_name(buf: &mut [u8], at: usize, number: u32) -> usize

@@ -31,12 +31,9 @@ module _ (n count : ℕ) (border : 49 ≤ n) where
   abbrev counted : ℕ
   counted = 1 + (n - 1) / 12 * count
 
-  as_counted : (r : ℕ) → r ≡ min n counted → r ≡ shown_of n count
+  pub as_counted : (r : ℕ) → r ≡ min n counted → r ≡ shown_of n count
   unfolding shown_of
   as_counted r e = rw (le-ltb n 49 border) e
-
-  pub some_shown : counted < n → counted ≡ shown_of n count
-  some_shown h = as_counted counted (omega arith)
 
   pub all_shown : n ≤ counted → n ≡ shown_of n count
   all_shown h = as_counted n (omega arith)

@@ -1,33 +1,15 @@
 -- The values of an answer in their order: which number or double stands at each place of the kinds. Assumes nothing.
 use mathlib.Core.Path.{◌≡◌, refl, sym, ap, ◌∙◌}
 use mathlib.Core.Bool.{Bool, true, false}
-use mathlib.Core.List.{List, [], ◌∷◌}
-use Prim.Native.Nat.{ℕ, zero, suc, ◌+◌, ◌-◌, ◌≤◌, ◌<◌}
+use mathlib.Core.List.{List, ◌∷◌}
+use Prim.Native.Nat.{ℕ, suc, ◌+◌, ◌-◌, ◌≤◌, ◌<◌}
 use native.Mathlib.Numerals.{add-one}
 use native.Mathlib.Omega.{arith}
-use lib.Ieee.{Float, binary64, to_bits, nan}
 use lib.ListN.{length, get_or, drop}
 use lib.Seq.{drop-cons, drop-drop, get_or-drop}
+use Rattle.std.specs.Int.{from_bool}
 use Rattle.reply.specs.Choice.{pick}
-use Rattle.lent.specs.Lent.{bits_of}
 use Rattle.ask_call.specs.Replies.{is_double, values_in}
-
--- the bits of a double that is read
-pub bits_read : (ds : List Float) (d : ℕ) → d < length ds → get_or (bits_of ds) d 0 ≡ to_bits binary64 (get_or ds d nan)
-bits_read [] d h = absurd (omega arith)
-bits_read (x ∷ ds) zero h = refl
-bits_read (x ∷ ds) (suc d) h = bits_read ds d (omega arith)
-
--- past the end all is zero
-pub bits_past : (ds : List Float) (d : ℕ) → length ds ≤ d → get_or (bits_of ds) d 0 ≡ 0
-bits_past [] d h = refl
-bits_past (x ∷ ds) zero h = absurd (omega arith)
-bits_past (x ∷ ds) (suc d) h = bits_past ds d (omega arith)
-
-pub past_end : (ns : List ℕ) (n : ℕ) → length ns ≤ n → get_or ns n 0 ≡ 0
-past_end [] n h = refl
-past_end (x ∷ ns) zero h = absurd (omega arith)
-past_end (x ∷ ns) (suc n) h = past_end ns n (omega arith)
 
 -- before value k, d of the values were doubles: from there on the values are those of the kinds, numbers and doubles that are left
 abbrev pub Left : List ℕ → List ℕ → List ℕ → ℕ → ℕ → Type 0
@@ -77,6 +59,11 @@ module _ (kinds ns ds : List ℕ) (k d : ℕ) (within : k < length kinds) (few :
       (tail_of (is_double (get_or kinds k 0)) (get_or (drop d ds) 0 0) (get_or (drop (k - d) ns) 0 0) _ _ ∙
       (rest_is (is_double (get_or kinds k 0)) ∙
       ap (λ (n : ℕ). values_in (drop n kinds) (drop ((k + 1) - pick (is_double (get_or kinds k 0)) (d + 1) d) ns) (drop (pick (is_double (get_or kinds k 0)) (d + 1) d) ds)) (sym (add-one k)))))
+
+-- one more where the value was a double
+pub past : (b : Bool) (d n : ℕ) → n ≡ from_bool b → d + n ≡ pick b (d + 1) d
+past true d n e = omega arith
+past false d n e = omega arith
 
 pub past_within : (b : Bool) (k d : ℕ) → d ≤ k → pick b (d + 1) d ≤ k + 1
 past_within true k d h = omega arith

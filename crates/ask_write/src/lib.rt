@@ -28,46 +28,35 @@ fn bits(x: f64) -> u64
     f64::to_bits(x)
 }
 
-// The next value: double d, or number n.
+// The next value: double d, or number n; 0 past their ends.
 fn value_at(a: Answer, double: bool, n: usize, d: usize) -> u64
     ensures { result ≡ pick double (get_or (bits_of a.doubles) d 0) (get_or a.numbers n 0) }
 {
-    let numbers = a.numbers;
-    let doubles = a.doubles;
     if double {
-        if d < 36 {
-            return bits(doubles[d]);
-        }
-        return 0;
+        return match a.doubles.get(d) {
+            Some(&x) => bits(x),
+            None => 0,
+        };
     }
-    if n < 25 {
-        return numbers[n];
+    match a.numbers.get(n) {
+        Some(&v) => v,
+        None => 0,
     }
-    0
-}
-
-fn past(d: usize, double: bool) -> usize
-    requires { d < 61 }
-    ensures { result ≡ pick double (d + 1) d }
-{
-    if double { d + 1 } else { d }
 }
 
 // The first n of the values that the kinds name, d of which are doubles so far.
-fn put_values(buf: &mut [u8], kinds: &[u8], n: usize, a: Answer) -> usize
-    requires { (1300 ≤ length buf.old) × (length kinds.now ≤ 61) × (n ≤ length kinds.now) }
+fn put_values(buf: &mut [u8; LONGEST], kinds: &[u8], n: usize, a: Answer) -> usize
+    requires { (length kinds.now ≤ 61) × (n ≤ length kinds.now) }
     ensures { PutAt (text_to kinds.now (values_in kinds.now a.numbers (bits_of a.doubles)) n) buf.old buf.new 0 result × (result ≤ 1281) }
 {
     let mut at = 0;
-    let mut k = 0;
     let mut d = 0;
-    while k < n {
+    for k in 0..n {
         let kind = kinds[k];
         let double = kind == b'x';
         let v = value_at(a, double, k - d, d);
         at = ask_text::put_field(buf, at, k, kind, v);
-        d = past(d, double);
-        k += 1;
+        d += usize::from(double);
     }
     at
 }
@@ -84,12 +73,12 @@ fn shown(len: usize, count: u64) -> usize
         return len;
     }
     let some = 1 + (len - 1) / 12 * (count as usize);
-    if some < len { some } else { len }
+    len.min(some)
 }
 
-// The line of the values that the kinds name.
-fn write_line(buf: &mut [u8], kinds: &[u8], a: Answer) -> usize
-    requires { (1300 ≤ length buf.old) × (length kinds.now ≤ 61) × (1 ≤ length kinds.now) }
+// The line of the values that the kinds name, a letter for each, which `ask_text` reads: as names of an enum the 61 of a border would be ten lines, and no plainer.
+fn write_line(buf: &mut [u8; LONGEST], kinds: &[u8], a: Answer) -> usize
+    requires { (length kinds.now ≤ 61) × (1 ≤ length kinds.now) }
     ensures { PutAt (values_text kinds.now (values_in kinds.now a.numbers (bits_of a.doubles))) buf.old buf.new 0 result × (result ≤ 1300) }
 {
     let first = value_at(a, kinds[0] == b'x', 0, 0);
@@ -98,15 +87,13 @@ fn write_line(buf: &mut [u8], kinds: &[u8], a: Answer) -> usize
 }
 
 // The line of a border on the plane, and of one on the sphere.
-fn write_border(buf: &mut [u8], a: Answer) -> usize
-    requires { 1300 ≤ length buf.old }
+fn write_border(buf: &mut [u8; LONGEST], a: Answer) -> usize
     ensures { PutAt (values_text (kinds_of Hexagon) (values_in (kinds_of Hexagon) a.numbers (bits_of a.doubles))) buf.old buf.new 0 result × (result ≤ 1300) }
 {
     write_line(buf, b"nnxxmnxxmnxxmnxxmnxxmnxxmnxxmnxxmnxxmnxxmnxxmnxxm", a)
 }
 
-fn write_globe(buf: &mut [u8], a: Answer) -> usize
-    requires { 1300 ≤ length buf.old }
+fn write_globe(buf: &mut [u8; LONGEST], a: Answer) -> usize
     ensures { PutAt (values_text (kinds_of Globe6) (values_in (kinds_of Globe6) a.numbers (bits_of a.doubles))) buf.old buf.new 0 result × (result ≤ 1300) }
 {
     write_line(
@@ -116,8 +103,7 @@ fn write_globe(buf: &mut [u8], a: Answer) -> usize
     )
 }
 
-fn write_values(buf: &mut [u8], asked: Asked, a: Answer) -> usize
-    requires { 1300 ≤ length buf.old }
+fn write_values(buf: &mut [u8; LONGEST], asked: Asked, a: Answer) -> usize
     ensures { PutAt (values_text (kinds_of asked) (values_in (kinds_of asked) a.numbers (bits_of a.doubles))) buf.old buf.new 0 result × (result ≤ 1300) }
 {
     match asked {
@@ -149,14 +135,14 @@ fn write_values(buf: &mut [u8], asked: Asked, a: Answer) -> usize
 pub fn write_answer(asked: Asked, a: Answer, buf: &mut [u8]) -> usize
     ensures { Wrote 1300 (answer_text asked (said_answer asked a)) buf.old buf.new result }
 {
-    if buf.len() < LONGEST {
+    let Some(room) = buf.first_chunk_mut::<LONGEST>() else {
         return 0;
-    }
+    };
     let number = a.number;
     if number == 0 {
-        return write_values(buf, asked, a);
+        return write_values(room, asked, a);
     }
-    ask_text::write_refused(buf, number)
+    ask_text::write_refused(room, number)
 }
 
 // Writes the answer's line to a question's line, on a frame, at the buffer's start, and answers its length. A buffer with fewer than LONGEST bytes is left unchanged and 0 answered. The help alone has no line: 0 where there is room.

@@ -8,10 +8,10 @@ use native.Mathlib.Omega.{arith}
 use lib.Dec.{ltb, eqb}
 use lib.Ieee.Bits.{is_false}
 use borrow.Author.Tests.{eq-eqb, ne_eqb, eqb-false}
+use Rattle.std.specs.Prelude.{Err}
 use Rattle.reply.specs.Choice.{pick}
 use Rattle.reply.specs.declared.Refusal.{Refusal}
 use Rattle.reply.specs.declared.Refusal.TheVariants.{NotAdjacent, NoCrossing}
-use Rattle.reply.specs.declared.Verdict.{Verdict}
 use Rattle.level.specs.declared.Grid.{Grid}
 use Rattle.level.proofs.Computed.{at}
 use Rattle.faceijk.specs.declared.Place.{Place}
@@ -86,7 +86,7 @@ fair_six s six on (suc k) =
     none
 
 -- A hexagon's boundary is never refused with 12.
-pub hexagon_never_twelve : (p : Place) (l start n : ℕ) → boundary_verdict 6 p l start n ≡ Verdict.Refused NotAdjacent → ⊥
+pub hexagon_never_twelve : (p : Place) (l start n : ℕ) → boundary_verdict 6 p l start n ≡ Err NotAdjacent → ⊥
 unfolding boundary_verdict
 hexagon_never_twelve p l start n e =
     ⊎_elim

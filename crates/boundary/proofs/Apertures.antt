@@ -74,6 +74,3 @@ offset_small true v h = offset_within true v h
 offset_small false v h =
     let o = offset_within false v h in
     record { i_upto = omega (arith, o.i_upto); j_upto = omega (arith, o.j_upto); k_upto = omega (arith, o.k_upto) }
-
-pub offset_small_of : (odd : Bool) (v : ℕ) (o : CoordIJK) → o ≡ offset_of odd v → v < 6 → Upto 5 o
-offset_small_of odd v o e h = rw e (offset_small odd v h)

@@ -4,8 +4,8 @@ use mathlib.Core.Bool.{Bool, false}
 use Prim.Native.Nat.{ℕ, ◌≤◌, ◌<◌}
 use native.Mathlib.Omega.{arith}
 use borrow.Author.Tests.{ltb-false}
+use Rattle.reply.specs.Replies.{fine}
 use Rattle.reply.specs.declared.Refusal.TheVariants.{BadFace, BadLevel, BadRange, NotReduced}
-use Rattle.reply.specs.declared.Verdict.TheVariants.{Fine}
 use Rattle.reply.proofs.Entries.{passed}
 use Rattle.level.specs.Levels.{bad_cell}
 use Rattle.coordijk.specs.Coordinates.{not_reduced, Taken}
@@ -20,7 +20,7 @@ pub record Asked (p : Place) (l : ℕ) (bad : Bool) : Type 0 where
   pub ranged : bad ≡ false
   pub taken : Taken (coord_of p)
 
-pub asked : (p : Place) (l : ℕ) (bad : Bool) → cell_verdict p l bad ≡ Fine → Asked p l bad
+pub asked : (p : Place) (l : ℕ) (bad : Bool) → cell_verdict p l bad ≡ fine → Asked p l bad
 asked p l bad e =
     let t3 = passed (bad_face p.face) BadFace _ e in
     let t4 = passed (bad_cell l) BadLevel _ t3.1 in

@@ -10,9 +10,7 @@ use lib.ListN.{length, take}
 use lib.Seq.{take-append_seam}
 use borrow.Author.Tests.{eq-eqb, le-ltb}
 use Rattle.reply.specs.declared.Refusal.TheVariants.{OutOfFace}
-use Rattle.reply.specs.declared.Verdict.{Verdict}
-use Rattle.reply.specs.declared.Verdict.TheVariants.{Fine}
-use Rattle.reply.specs.Replies.{when, first}
+use Rattle.reply.specs.Replies.{when, first, Verdict, fine}
 use Rattle.reply.proofs.Entries.{neither}
 use Rattle.faceijk.specs.declared.Place.{Place}
 use Rattle.boundary.specs.declared.Shape.{Shape}
@@ -40,13 +38,13 @@ module _ (s : Shape) (k : ℕ) where
   pub beginning : (n : ℕ) → k ≤ n → take (length (points_to s k)) (points_to s n) ≡ points_to s k
   beginning n h = let r = grows n h in ap (take (length (points_to s k))) r.1 ∙ take-append_seam (points_to s k) r.0
 
-  pub fine_before : (n : ℕ) → k ≤ n → verdict_to s n ≡ Fine → verdict_to s k ≡ Fine
+  pub fine_before : (n : ℕ) → k ≤ n → verdict_to s n ≡ fine → verdict_to s k ≡ fine
   unfolding verdict_to
-  fine_before zero h e = let z : 0 ≡ k = omega arith in subst (λ (m : ℕ). verdict_to s m ≡ Fine) z e
+  fine_before zero h e = let z : 0 ≡ k = omega arith in subst (λ (m : ℕ). verdict_to s m ≡ fine) z e
   fine_before (suc n) h e =
       elim (dec_le k n) [
         | yes a ↦ fine_before n a (both_fine (verdict_to s n) _ e).0
-        | no a ↦ let z : suc n ≡ k = omega arith in subst (λ (m : ℕ). verdict_to s m ≡ Fine) z e
+        | no a ↦ let z : suc n ≡ k = omega arith in subst (λ (m : ℕ). verdict_to s m ≡ fine) z e
       ]
 
 -- A boundary of length n, where that of full length is given, is its beginning.
@@ -54,7 +52,7 @@ module _ (sides : ℕ) (p : Place) (l start n : ℕ) (h : n ≤ sides) where
   fewer : turns_for sides n ≤ turns_for sides sides
   fewer = rw (eq-eqb sides sides refl) (omega (arith, turns_few sides n h))
 
-  tests_fine : first (boundary_reasons sides p l start sides) ≡ Fine → first (boundary_reasons sides p l start n) ≡ Fine
+  tests_fine : first (boundary_reasons sides p l start sides) ≡ fine → first (boundary_reasons sides p l start n) ≡ fine
   tests_fine e =
       let bad = bad_range sides start sides in
       let t = both_fine (cell_verdict p l bad) _ (sym (first_append (cell_reasons p l bad) (when (out_of_face p l) OutOfFace ∷ [])) ∙ e) in
@@ -63,7 +61,7 @@ module _ (sides : ℕ) (p : Place) (l start n : ℕ) (h : n ≤ sides) where
       let good : bad_range sides start n ≡ false = simp (below, le-ltb sides n h) in
       ap (λ (b : Bool). first (cell_reasons p l b ++ when (out_of_face p l) OutOfFace ∷ [])) (good ∙ sym r) ∙ e
 
-  pub shorter : boundary_verdict sides p l start sides ≡ Fine → (boundary_verdict sides p l start n ≡ Fine) × (take (length (boundary_points sides p l start n)) (boundary_points sides p l start sides) ≡ boundary_points sides p l start n)
+  pub shorter : boundary_verdict sides p l start sides ≡ fine → (boundary_verdict sides p l start n ≡ fine) × (take (length (boundary_points sides p l start n)) (boundary_points sides p l start sides) ≡ boundary_points sides p l start n)
   unfolding boundary_verdict boundary_points
   shorter e =
       let s = asked_shape sides p l start in

@@ -6,9 +6,10 @@ use mathlib.Core.List.{List, [], ◌∷◌, ◌++◌}
 use Prim.Native.Nat.{ℕ, zero, suc, ◌*◌, ◌≤◌}
 use lib.Dec.{ltb}
 use borrow.Author.Tests.{ltb-false}
+use Rattle.reply.specs.declared.Refusal.{Refusal}
+use Rattle.std.specs.Prelude.{Ok, Err, Result, Option, Some, None}
 use Rattle.reply.specs.declared.Refusal.TheVariants.{OutOfFace}
-use Rattle.reply.specs.declared.Verdict.TheVariants.{Fine}
-use Rattle.reply.specs.Replies.{when, first}
+use Rattle.reply.specs.Replies.{when, first, fine}
 use Rattle.reply.specs.Order.{Each}
 use Rattle.reply.proofs.Entries.{passed}
 use Rattle.level.specs.Levels.{raised_of, limit_of}
@@ -18,8 +19,6 @@ use Rattle.faceijk.specs.Places.{coord_of, sum_at}
 use Rattle.faceijk.proofs.Taking.{sound_at}
 use Rattle.boundary.specs.declared.Shape.{Shape}
 use Rattle.boundary.specs.declared.BoundaryPoint.{BoundaryPoint}
-use Rattle.boundary.specs.declared.Before.{Before}
-use Rattle.boundary.specs.declared.Before.TheVariants.{Nothing, Point, Refused}
 use Rattle.boundary.specs.Corners.{class_iii, through_apertures, cell_reasons}
 use Rattle.boundary.specs.Landing.{cell_of, substrate_of, corner_place, vertex_of, land_at, Reached}
 use Rattle.boundary.specs.CrossingPoints.{a_crossing, corner_point, before_at}
@@ -55,10 +54,10 @@ module _ (s : Shape) (fit : Fit s) where
       let okay = corner_okay s (vertex_of s k) fit (vertex_low s k fit.solid) in
       record { v = vertex_of s k; q = _; reached = land_reached s.sides g (sound_at s.cell.level.0 true fit.solid.level) p okay; is = refl }
 
-  before_placed : (b : Before) → Fair TwelveOrThirteen b → Each (Placed s) (points_before b)
-  before_placed Nothing h = tt
-  before_placed (Point p) (point_there m) = (inl m, tt)
-  before_placed (Refused r) h = tt
+  before_placed : (b : Result (Option BoundaryPoint) Refusal) → Fair TwelveOrThirteen b → Each (Placed s) (points_before b)
+  before_placed (Ok None) h = tt
+  before_placed (Ok (Some p)) (point_there m) = (inl m, tt)
+  before_placed (Err r) h = tt
 
   corners_placed : (k : ℕ) → Each (Placed s) (corners_in s k)
   corners_placed k = either (Each (Placed s)) (ltb k s.sides) (inr (corner_at k), tt) tt
@@ -76,15 +75,15 @@ unfolding cell_of
 near_of sides p l start h = rw (← (substrate_limit (raised_of l))) h
 
 -- An entry whose tests found nothing: what they leave known, and that its shape fits, so all of this holds of its boundary.
-tests_fine : (sides : ℕ) (p : Place) (l start n : ℕ) → first (boundary_reasons sides p l start n) ≡ Fine → (cell_verdict p l (bad_range sides start n) ≡ Fine) × (first (when (out_of_face p l) OutOfFace ∷ []) ≡ Fine)
+tests_fine : (sides : ℕ) (p : Place) (l start n : ℕ) → first (boundary_reasons sides p l start n) ≡ fine → (cell_verdict p l (bad_range sides start n) ≡ fine) × (first (when (out_of_face p l) OutOfFace ∷ []) ≡ fine)
 tests_fine sides p l start n e =
     let bad = bad_range sides start n in
     both_fine (cell_verdict p l bad) _ (sym (first_append (cell_reasons p l bad) (when (out_of_face p l) OutOfFace ∷ [])) ∙ e)
 
-pub asked_of : (sides : ℕ) (p : Place) (l start n : ℕ) → first (boundary_reasons sides p l start n) ≡ Fine → Asked p l (bad_range sides start n)
+pub asked_of : (sides : ℕ) (p : Place) (l start n : ℕ) → first (boundary_reasons sides p l start n) ≡ fine → Asked p l (bad_range sides start n)
 asked_of sides p l start n e = asked p l (bad_range sides start n) (tests_fine sides p l start n e).0
 
-pub asked_fit : (sides : ℕ) (p : Place) (l start n : ℕ) → 5 ≤ sides → sides ≤ 6 → first (boundary_reasons sides p l start n) ≡ Fine → Fit (asked_shape sides p l start)
+pub asked_fit : (sides : ℕ) (p : Place) (l start n : ℕ) → 5 ≤ sides → sides ≤ 6 → first (boundary_reasons sides p l start n) ≡ fine → Fit (asked_shape sides p l start)
 asked_fit sides p l start n many few e =
     let a = asked_of sides p l start n e in
     let inside = (passed (out_of_face p l) OutOfFace _ (tests_fine sides p l start n e).1).0 in

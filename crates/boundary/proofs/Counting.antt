@@ -6,21 +6,21 @@ use native.Mathlib.Decide.{dec_le}
 use native.Mathlib.Omega.{arith}
 use lib.ListN.{length, length-append}
 use borrow.Author.Tests.{lt-ltb, le-ltb}
+use Rattle.reply.specs.declared.Refusal.{Refusal}
+use Rattle.std.specs.Prelude.{Ok, Err, Result, Option, Some, None}
 use Rattle.boundary.specs.declared.Shape.{Shape}
 use Rattle.boundary.specs.declared.BoundaryPoint.{BoundaryPoint}
-use Rattle.boundary.specs.declared.Before.{Before}
-use Rattle.boundary.specs.declared.Before.TheVariants.{Nothing, Point, Refused}
 use Rattle.boundary.specs.Landing.{land_at}
 use Rattle.boundary.specs.CrossingPoints.{corner_point, before_at}
 use Rattle.boundary.specs.Boundaries.{points_before, points_in, points_to, crossings_to}
 
 -- at most one crossing point stands before a corner, and none before the first
-one_before : (b : Before) → length (points_before b) ≤ 1
-one_before Nothing = omega arith
-one_before (Point p) = omega arith
-one_before (Refused r) = omega arith
+one_before : (b : Result (Option BoundaryPoint) Refusal) → length (points_before b) ≤ 1
+one_before (Ok None) = omega arith
+one_before (Ok (Some p)) = omega arith
+one_before (Err r) = omega arith
 
-none_first : (s : Shape) → before_at s 0 ≡ Nothing
+none_first : (s : Shape) → before_at s 0 ≡ Ok None
 unfolding before_at
 none_first s = refl
 

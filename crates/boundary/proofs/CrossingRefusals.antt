@@ -4,13 +4,12 @@ use mathlib.Core.Bool.{Bool, true, false, true≢false, ◌||◌}
 use mathlib.Core.Logic.{◌⊎◌, inl, inr}
 use Prim.Native.Nat.{ℕ, zero, suc}
 use lib.Dec.{eqb}
+use Rattle.reply.specs.Replies.{Verdict}
+use Rattle.std.specs.Prelude.{Ok, Err, Result, Option, Some, None}
 use Rattle.reply.specs.Choice.{pick}
 use Rattle.reply.specs.declared.Refusal.{Refusal}
 use Rattle.reply.specs.declared.Refusal.TheVariants.{NotAdjacent, NoCrossing}
-use Rattle.reply.specs.declared.Verdict.{Verdict}
-use Rattle.reply.specs.declared.Verdict.TheVariants.{Fine}
 use Rattle.vec2d.specs.declared.Vec2d.{Vec2d}
-use Rattle.vec2d.specs.declared.Pointed.{Pointed}
 use Rattle.vec2d.specs.declared.Crossing.{Crossing as Meeting}
 use Rattle.vec2d.specs.Points.{point}
 use Rattle.vec2d.specs.Meeting.{no_crossing, met_of}
@@ -22,17 +21,15 @@ use Rattle.faceijk.specs.Entries.{bad_edge}
 use Rattle.boundary.specs.declared.Cell.{Cell}
 use Rattle.boundary.specs.declared.Shape.{Shape}
 use Rattle.boundary.specs.declared.BoundaryPoint.{BoundaryPoint}
-use Rattle.boundary.specs.declared.Before.{Before}
-use Rattle.boundary.specs.declared.Before.TheVariants.{Nothing, Point, Refused}
 use Rattle.boundary.specs.CrossingPoints.{a_crossing, pointed, cross_at, unless_corner, is_face_edge, hexagon_crossing, taken_over, pentagon_crossing, crossing_between, before_at}
 use Rattle.boundary.specs.Boundaries.{or_else, verdict_before, verdict_to}
 use Rattle.boundary.specs.CrossingPoints.{away_face}
 
 -- what stands before a corner is nothing, a crossing point, or a refusal that P allows
-pub data Fair (P : Refusal → Type 0) : Before → Type 0 where
-  none : Fair P Nothing
-  point_there : {p : BoundaryPoint} → p.mark ≡ a_crossing → Fair P (Point p)
-  refused : {r : Refusal} → P r → Fair P (Refused r)
+pub data Fair (P : Refusal → Type 0) : Result (Option BoundaryPoint) Refusal → Type 0 where
+  none : Fair P (Ok None)
+  point_there : {p : BoundaryPoint} → p.mark ≡ a_crossing → Fair P (Ok (Some p))
+  refused : {r : Refusal} → P r → Fair P (Err r)
 
 pub either : {A : Type 0} (Q : A → Type 0) (b : Bool) {x y : A} → Q x → Q y → Q (pick b x y)
 either Q true p q = p
@@ -51,7 +48,7 @@ module _ (P : Refusal → Type 0) (unmet : P NoCrossing) where
   unfolding met_of
   fair_pointed f m = go (no_crossing m)
     where
-      go : (b : Bool) → Fair P (pointed f (pick b (Pointed.Refused NoCrossing) (Pointed.Done m.at)))
+      go : (b : Bool) → Fair P (pointed f (pick b (Err NoCrossing) (Ok m.at)))
       go true = refused unmet
       go false = point_there refl
 
@@ -60,14 +57,14 @@ module _ (P : Refusal → Type 0) (unmet : P NoCrossing) where
   unfolding cross_at
   fair_cross m f a b d h = go (bad_edge d) _ h
     where
-      go : (x : Bool) (y : Meeting) → (x ≡ true → P NotAdjacent) → Fair P (pick x (Refused NotAdjacent) (pointed f (met_of y)))
+      go : (x : Bool) (y : Meeting) → (x ≡ true → P NotAdjacent) → Fair P (pick x (Err NotAdjacent) (pointed f (met_of y)))
       go true y h = refused (h refl)
       go false y h = fair_pointed f y
 
-  pub fair_unless : (a b : Vec2d) (x : Before) → Fair P x → Fair P (unless_corner a b x)
-  fair_unless a b Nothing h = none
-  fair_unless a b (Point p) h = either (Fair P) (close a (point p.x p.y) || close b (point p.x p.y)) none h
-  fair_unless a b (Refused r) h = h
+  pub fair_unless : (a b : Vec2d) (x : Result (Option BoundaryPoint) Refusal) → Fair P x → Fair P (unless_corner a b x)
+  fair_unless a b (Ok None) h = none
+  fair_unless a b (Ok (Some p)) h = either (Fair P) (close a (point p.x p.y) || close b (point p.x p.y)) none h
+  fair_unless a b (Err r) h = h
 
   -- a hexagon's, where between unlike faces an edge that is none of the three may be refused
   pub fair_hexagon : (c : Cell) (last : Landed) (now v : ℕ) → (let home = c.centre.face in eqb last.place.face now ≡ false → bad_edge (dir_to home (away_face home last.place.face now)) ≡ true → P NotAdjacent) → Fair P (hexagon_crossing c last now v)
@@ -99,26 +96,26 @@ fair s (suc k) =
 -- the verdict of the first turns has a refusal that each of them allows
 module _ (P : Refusal → Type 0) where
   abbrev Allows : Verdict → Type 0
-  Allows Fine = Unit {0}
-  Allows (Verdict.Refused r) = P r
+  Allows (Ok _) = Unit {0}
+  Allows (Err r) = P r
 
-  allows_before : (b : Before) → Fair P b → Allows (verdict_before b)
-  allows_before Nothing h = tt
-  allows_before (Point p) h = tt
-  allows_before (Refused r) (refused h) = h
+  allows_before : (b : Result (Option BoundaryPoint) Refusal) → Fair P b → Allows (verdict_before b)
+  allows_before (Ok None) h = tt
+  allows_before (Ok (Some p)) h = tt
+  allows_before (Err r) (refused h) = h
 
   allows_either : (a b : Verdict) → Allows a → Allows b → Allows (or_else a b)
-  allows_either Fine b f g = g
-  allows_either (Verdict.Refused r) b f g = f
+  allows_either (Ok _) b f g = g
+  allows_either (Err r) b f g = f
 
   allows_to : (s : Shape) → ((k : ℕ) → Fair P (before_at s k)) → (k : ℕ) → Allows (verdict_to s k)
   unfolding verdict_to
   allows_to s h zero = tt
   allows_to s h (suc k) = allows_either (verdict_to s k) _ (allows_to s h k) (allows_before (before_at s k) (h k))
 
-  pub allowed : (s : Shape) → ((k : ℕ) → Fair P (before_at s k)) → (k : ℕ) (r : Refusal) → verdict_to s k ≡ Verdict.Refused r → P r
+  pub allowed : (s : Shape) → ((k : ℕ) → Fair P (before_at s k)) → (k : ℕ) (r : Refusal) → verdict_to s k ≡ Err r → P r
   allowed s h k r e = subst Allows e (allows_to s h k)
 
 -- A crossing point is refused by 12 or 13 only.
-pub twelve_or_thirteen : (s : Shape) (k : ℕ) (r : Refusal) → verdict_to s k ≡ Verdict.Refused r → TwelveOrThirteen r
+pub twelve_or_thirteen : (s : Shape) (k : ℕ) (r : Refusal) → verdict_to s k ≡ Err r → TwelveOrThirteen r
 twelve_or_thirteen s k r e = allowed TwelveOrThirteen s (fair s) k r e

@@ -5,11 +5,10 @@ use mathlib.Core.Logic.{◌⊎◌, inl, inr}
 use mathlib.Core.List.{List, [], ◌∷◌}
 use Prim.Native.Nat.{ℕ, ◌<◌}
 use native.Mathlib.Omega.{arith}
+use Rattle.std.specs.Prelude.{Ok, Err}
 use Rattle.reply.specs.Choice.{pick}
 use Rattle.reply.specs.declared.Refusal.{Refusal}
-use Rattle.reply.specs.declared.Verdict.{Verdict}
-use Rattle.reply.specs.declared.Verdict.TheVariants.{Fine, Refused}
-use Rattle.reply.specs.Replies.{number_of, Reason, first}
+use Rattle.reply.specs.Replies.{number_of, Reason, first, Verdict, fine}
 use Rattle.reply.specs.Order.{Each, Foremost}
 use Rattle.reply.proofs.Foremost.{foremost}
 use Rattle.faceijk.specs.declared.Place.{Place}
@@ -26,27 +25,27 @@ boundary_foremost sides p l start n =
     foremost 0 (boundary_reasons sides p l start n) (omega arith, (omega arith, (omega arith, (omega arith, (omega arith, tt)))))
 
 -- a verdict by reasons that all have numbers below m has one below m
-below : (m : ℕ) (rs : List Reason) → Each (λ (x : Reason). number_of x.refusal < m) rs → (r : Refusal) → first rs ≡ Refused r → number_of r < m
+below : (m : ℕ) (rs : List Reason) → Each (λ (x : Reason). number_of x.refusal < m) rs → (r : Refusal) → first rs ≡ Err r → number_of r < m
 below m [] h r e = let z : ◌≡◌ {A = ℕ} 0 1 = cc in absurd (omega arith)
 below m (x ∷ rs) h r e = go x.applies refl (below m rs h.1 r)
   where
-    go : (b : Bool) → b ≡ x.applies → (first rs ≡ Refused r → number_of r < m) → number_of r < m
+    go : (b : Bool) → b ≡ x.applies → (first rs ≡ Err r → number_of r < m) → number_of r < m
     go true a f =
-        let same : Refused x.refusal ≡ Refused r = ap (λ (t : Bool). pick t (Refused x.refusal) (first rs)) a ∙ e in
+        let same : Err x.refusal ≡ Err r = ap (λ (t : Bool). pick t (Err x.refusal) (first rs)) a ∙ e in
         let is : x.refusal ≡ r = cc in
         rw (← is) h.0
-    go false a f = f (ap (λ (t : Bool). pick t (Refused x.refusal) (first rs)) a ∙ e)
+    go false a f = f (ap (λ (t : Bool). pick t (Err x.refusal) (first rs)) a ∙ e)
 
 -- A refusal by the tests of a boundary has a number below 12.
-pub tests_below : (sides : ℕ) (p : Place) (l start n : ℕ) (r : Refusal) → first (boundary_reasons sides p l start n) ≡ Refused r → number_of r < 12
+pub tests_below : (sides : ℕ) (p : Place) (l start n : ℕ) (r : Refusal) → first (boundary_reasons sides p l start n) ≡ Err r → number_of r < 12
 tests_below sides p l start n r e =
     below 12 (boundary_reasons sides p l start n) (omega arith, (omega arith, (omega arith, (omega arith, (omega arith, tt))))) r e
 
 -- a verdict by two stages
-pub one_refused : (a b : Verdict) (r : Refusal) → or_else a b ≡ Refused r → (a ≡ Refused r) ⊎ ((a ≡ Fine) × (b ≡ Refused r))
-one_refused Fine b r e = inr (refl, e)
-one_refused (Refused s) b r e = inl e
+pub one_refused : (a b : Verdict) (r : Refusal) → or_else a b ≡ Err r → (a ≡ Err r) ⊎ ((a ≡ fine) × (b ≡ Err r))
+one_refused (Ok _) b r e = inr (refl, e)
+one_refused (Err s) b r e = inl e
 
-pub both_fine : (a b : Verdict) → or_else a b ≡ Fine → (a ≡ Fine) × (b ≡ Fine)
-both_fine Fine b e = (refl, e)
-both_fine (Refused r) b e = let z : ◌≡◌ {A = ℕ} 0 1 = cc in absurd (omega arith)
+pub both_fine : (a b : Verdict) → or_else a b ≡ fine → (a ≡ fine) × (b ≡ fine)
+both_fine (Ok _) b e = (refl, e)
+both_fine (Err r) b e = let z : ◌≡◌ {A = ℕ} 0 1 = cc in absurd (omega arith)

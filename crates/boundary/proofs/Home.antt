@@ -7,8 +7,7 @@ use native.Mathlib.Omega.{arith}
 use lib.Dec.{T, ltb, eqb, eqb→eq}
 use borrow.Author.Tests.{ltb-true, ltb-false, eqb-true, eqb-false}
 use Rattle.reply.specs.Choice.{pick}
-use Rattle.reply.specs.declared.Verdict.TheVariants.{Fine}
-use Rattle.reply.specs.Replies.{first}
+use Rattle.reply.specs.Replies.{first, fine}
 use Rattle.reply.proofs.Entries.{both}
 use Rattle.level.specs.declared.Grid.{Grid}
 use Rattle.level.specs.Levels.{raised_of, limit_of, Sound}
@@ -217,7 +216,7 @@ module _ (sides : ℕ) (p : Place) (l start : ℕ) (fit : Fit (asked_shape sides
       go false e = once_home g sound _ okay (hexagon_low (vertex_of s k) (vertex_low s k fit.solid) (n (six fit.solid (eqb-false sides 5 e))))
 
 -- The same of every boundary whose tests found nothing: each of its corners is a place that is taken, with s at most m.
-pub corners_home : (sides : ℕ) (p : Place) (l start n : ℕ) → 5 ≤ sides → sides ≤ 6 → first (boundary_reasons sides p l start n) ≡ Fine → let s = asked_shape sides p l start in let g = substrate_of s.cell.level in
+pub corners_home : (sides : ℕ) (p : Place) (l start n : ℕ) → 5 ≤ sides → sides ≤ 6 → first (boundary_reasons sides p l start n) ≡ fine → let s = asked_shape sides p l start in let g = substrate_of s.cell.level in
     (sides ≡ 6 → NoCorner g.limit (coord_of s.cell.centre)) → (k : ℕ) → Okay (land_at s k).place × (sum_at (land_at s k).place ≤ g.limit)
 corners_home sides p l start n many few e apart k =
     let a = asked_of sides p l start n e in

@@ -8,18 +8,17 @@ use native.Mathlib.Numerals.{add-one}
 use native.Mathlib.Omega.{arith}
 use lib.Dec.{eqb, leb, leb→le}
 use borrow.Author.Tests.{eq-eqb, ne_eqb}
+use Rattle.std.specs.Prelude.{Ok, None}
 use Rattle.reply.specs.Choice.{pick}
-use Rattle.reply.specs.declared.Verdict.TheVariants.{Fine}
 use Rattle.level.proofs.Computed.{at}
 use Rattle.coordijk.specs.Coordinates.{sum_of}
 use Rattle.coordijk.proofs.Reducing.{reduced_low}
 use Rattle.faceijk.specs.declared.Landed.{Landed}
-use Rattle.faceijk.specs.declared.Overage.TheVariants.{None}
+use Rattle.faceijk.specs.declared.Overage.{Overage}
 use Rattle.faceijk.specs.Places.{sum_at}
 use Rattle.faceijk.specs.Crossing.{landed}
 use Rattle.boundary.specs.declared.Shape.{Shape}
 use Rattle.boundary.specs.declared.BoundaryPoint.{BoundaryPoint}
-use Rattle.boundary.specs.declared.Before.TheVariants.{Nothing}
 use Rattle.boundary.specs.Corners.{offset_of, corner_of}
 use Rattle.boundary.specs.Landing.{substrate_of, corner_place, vertex_of, land_at}
 use Rattle.boundary.specs.CrossingPoints.{hexagon_crossing, pentagon_crossing, crossing_between, before_at}
@@ -45,7 +44,7 @@ module _ (s : Shape) (d : Deep s) where
       omega (arith, w, offset_sum s.cell.odd v h, d.deep, d.fit.solid.limit, substrate_limit s.cell.level.0)
 
   -- each corner stays
-  pub stays_at : (k : ℕ) → landed (corner_place s.cell (vertex_of s k)) None ≡ land_at s k
+  pub stays_at : (k : ℕ) → landed (corner_place s.cell (vertex_of s k)) Overage.None ≡ land_at s k
   unfolding land_at
   stays_at k = stays_put (substrate_of s.cell.level) (corner_place s.cell (vertex_of s k)) (corner_near (vertex_of s k) (vertex_low s k d.fit.solid)) s.sides
 
@@ -53,21 +52,21 @@ module _ (s : Shape) (d : Deep s) where
   at_home k = ap (λ (l : Landed). l.place.face) (sym (stays_at k))
 
   -- between two corners on one face there is nothing
-  between_none : (last now : Landed) (v : ℕ) → last.place.face ≡ now.place.face → crossing_between s last now v ≡ Nothing
+  between_none : (last now : Landed) (v : ℕ) → last.place.face ≡ now.place.face → crossing_between s last now v ≡ Ok None
   unfolding crossing_between hexagon_crossing
   between_none last now v e = go s.cell.odd
     where
-      go : (b : Bool) → pick b (pick (eqb s.sides 5) (pentagon_crossing s.cell last.place now.place) (hexagon_crossing s.cell last now.place.face v)) Nothing ≡ Nothing
+      go : (b : Bool) → pick b (pick (eqb s.sides 5) (pentagon_crossing s.cell last.place now.place) (hexagon_crossing s.cell last now.place.face v)) (Ok None) ≡ Ok None
       go true = rw (ne_eqb s.sides 5 (λ z. omega (arith, d.hexagon)), eq-eqb last.place.face now.place.face e)
       go false = refl
 
-  pub none_before : (k : ℕ) → before_at s k ≡ Nothing
+  pub none_before : (k : ℕ) → before_at s k ≡ Ok None
   unfolding before_at
   none_before zero = refl
   none_before (suc k) = between_none (land_at s k) (land_at s (suc k)) _ (at_home k ∙ sym (at_home (suc k)))
 
   -- the turn past all corners adds nothing
-  pub full : (points : List BoundaryPoint) (count : ℕ) (last : Landed) (n : ℕ) → Walking s points count last n → n ≤ s.sides → record { refusal = Fine; count = count; points = points } ≡ boundary_of (verdict_to s (turns_for s.sides n)) (points_to s (turns_for s.sides n))
+  pub full : (points : List BoundaryPoint) (count : ℕ) (last : Landed) (n : ℕ) → Walking s points count last n → n ≤ s.sides → Ok (record { count = count; points = points }) ≡ boundary_of (verdict_to s (turns_for s.sides n)) (points_to s (turns_for s.sides n))
   full points count last n w h =
       elim (ℕ_discrete n s.sides) [
         | yes e ↦

@@ -14,7 +14,7 @@ use Rattle.faceijk.specs.declared.Place.{Place}
 use Rattle.faceijk.specs.declared.Landed.{Landed}
 use Rattle.faceijk.specs.declared.Overage.{Overage}
 use Rattle.faceijk.specs.declared.Overage.TheVariants.{None, FaceEdge}
-use Rattle.faceijk.specs.Places.{coord_of, sum_at, QAt, Okay}
+use Rattle.faceijk.specs.Places.{sum_at, QAt, Okay}
 use Rattle.faceijk.specs.Crossing.{on_edge, step_out, landed, crossing_of, settle_from}
 use Rattle.faceijk.specs.Walking.{Walk, rest, over}
 use Rattle.faceijk.proofs.Taking.{sound_at}
@@ -22,7 +22,7 @@ use Rattle.faceijk.proofs.Settling.{walks, okay_out}
 use Rattle.boundary.specs.declared.Shape.{Shape}
 use Rattle.boundary.specs.Corners.{offset_of, corner_of}
 use Rattle.boundary.specs.Landing.{substrate_of, corner_place, crossed_once, settled_at, land_from, vertex_of, land_at, Reached, here}
-use Rattle.boundary.specs.AsWalked.{Upto, Solid, Fit}
+use Rattle.boundary.specs.AsWalked.{Solid, Fit}
 use Rattle.boundary.proofs.Apertures.{offset_small}
 
 -- the corner of the turn before k, and the centre where there is none: what the code's walk starts with
@@ -42,11 +42,6 @@ six f h = omega (arith, f.many, f.few)
 -- the corner of every turn is one of the sides
 pub vertex_low : (s : Shape) (k : ℕ) → Solid s → vertex_of s k < 6
 vertex_low s k f = omega (arith, mod-lt (s.start + k) {m = s.sides} (omega (arith, f.many)), f.few)
-
-pub fit_upto : {s : Shape} → Fit s → Upto 805306368 (coord_of s.cell.centre)
-fit_upto {s} f =
-    let l = f.solid.low in
-    record { i_upto = omega (arith, f.near); j_upto = omega (arith, f.near); k_upto = omega (arith, f.near) }
 
 -- a corner lies near its centre, so it is taken
 max_le : (a b c n : ℕ) → a ≤ n → b ≤ n → c ≤ n → max a (max b c) ≤ n
@@ -110,9 +105,3 @@ land_okay s k f =
 
 pub land_okay_of : (s : Shape) (k : ℕ) (x : Landed) → x ≡ land_at s k → Fit s → Okay x.place
 land_okay_of s k x e f = rw e (land_okay s k f)
-
--- the face of the corner before, which is the centre's before the first turn
-pub last_face : (s : Shape) (k : ℕ) (x : Landed) → x ≡ last_at s k → Fit s → x.place.face < 20
-unfolding last_at
-last_face s zero x e f = rw e f.solid.on
-last_face s (suc k) x e f = rw e (land_okay s k f).on

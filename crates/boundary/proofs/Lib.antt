@@ -1,6 +1,5 @@
 -- Laws of `boundary`: corners and boundaries: counts, faces, refusals, beginnings, unique answers.
 pub mod Apertures
-pub mod Unwrapped
 pub mod Asked
 pub mod Cells
 pub mod Landing

@@ -8,10 +8,9 @@ use native.Mathlib.Omega.{arith}
 use lib.ListN.{length, drop, replicate}
 use lib.Seq.{drop_at}
 use borrow.Author.Tests.{eq-eqb, ne_eqb}
+use Rattle.std.specs.Prelude.{Err}
 use Rattle.reply.specs.declared.Refusal.{Refusal}
-use Rattle.reply.specs.declared.Verdict.{Verdict}
-use Rattle.reply.specs.declared.Verdict.TheVariants.{Fine, Refused}
-use Rattle.reply.specs.Replies.{first, refusal, reply}
+use Rattle.reply.specs.Replies.{first, refusal, reply, Verdict, fine}
 use Rattle.faceijk.specs.declared.Place.{Place}
 use Rattle.boundary.specs.declared.BoundaryPoint.{BoundaryPoint}
 use Rattle.boundary.specs.Boundaries.{points_to, crossings_to, or_else, verdict_to, turns_for, boundary_reasons, asked_shape, boundary_verdict, boundary_points, room_with, no_point, padded, boundary_values, boundary_reply}
@@ -19,7 +18,7 @@ use Rattle.boundary.proofs.Counting.{count_is, full_count, points_fit}
 use Rattle.boundary.proofs.Verdicts.{turns_few}
 
 -- A refused boundary is its number and zeros.
-pub refused_zeros : (sides : ℕ) (p : Place) (l start n : ℕ) (r : Refusal) → boundary_verdict sides p l start n ≡ Refused r → boundary_reply sides p l start n ≡ refusal 49 r
+pub refused_zeros : (sides : ℕ) (p : Place) (l start n : ℕ) (r : Refusal) → boundary_verdict sides p l start n ≡ Err r → boundary_reply sides p l start n ≡ refusal 49 r
 refused_zeros sides p l start n r e = ap (λ (v : Verdict). reply 49 v (boundary_values (boundary_points sides p l start n))) e
 
 -- The points beyond the count are zero.
@@ -31,7 +30,7 @@ pub unused_zero : (ps : List BoundaryPoint) → drop (length ps) (padded ps) ≡
 unused_zero ps = room_after no_point ps
 
 -- Length 0 gives an empty boundary, which only the tests can refuse.
-pub empty : (sides : ℕ) (p : Place) (l start : ℕ) → 0 < sides → (boundary_points sides p l start 0 ≡ []) × (boundary_verdict sides p l start 0 ≡ or_else (first (boundary_reasons sides p l start 0)) Fine)
+pub empty : (sides : ℕ) (p : Place) (l start : ℕ) → 0 < sides → (boundary_points sides p l start 0 ≡ []) × (boundary_verdict sides p l start 0 ≡ or_else (first (boundary_reasons sides p l start 0)) fine)
 unfolding boundary_points boundary_verdict points_to verdict_to
 empty sides p l start h = let short = ne_eqb 0 sides (λ e. omega arith) in (rw short, rw short)
 

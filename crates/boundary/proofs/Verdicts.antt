@@ -7,12 +7,11 @@ use native.Mathlib.Omega.{arith}
 use lib.Dec.{ltb, leb, eqb}
 use lib.Ieee.{of_bits, to_bits}
 use borrow.Author.Tests.{ltb-false, leb-false}
+use Rattle.std.specs.Prelude.{Ok, Err}
 use Rattle.reply.specs.Choice.{pick}
 use Rattle.reply.specs.declared.Refusal.{Refusal}
 use Rattle.reply.specs.declared.Refusal.TheVariants.{OutOfFace}
-use Rattle.reply.specs.declared.Verdict.{Verdict}
-use Rattle.reply.specs.declared.Verdict.TheVariants.{Fine, Refused}
-use Rattle.reply.specs.Replies.{Reason, when, first, reply}
+use Rattle.reply.specs.Replies.{Reason, when, first, reply, Verdict, fine}
 use Rattle.reply.proofs.Entries.{neither}
 use Rattle.level.specs.Levels.{raised_of}
 use Rattle.coordijk.specs.Coordinates.{sum_of}
@@ -30,7 +29,7 @@ pub first_append : (rs ss : List Reason) → first (rs ++ ss) ≡ or_else (first
 first_append [] ss = refl
 first_append (r ∷ rs) ss = go r.applies (first_append rs ss)
   where
-    go : (b : Bool) → first (rs ++ ss) ≡ or_else (first rs) (first ss) → pick b (Refused r.refusal) (first (rs ++ ss)) ≡ or_else (pick b (Refused r.refusal) (first rs)) (first ss)
+    go : (b : Bool) → first (rs ++ ss) ≡ or_else (first rs) (first ss) → pick b (Err r.refusal) (first (rs ++ ss)) ≡ or_else (pick b (Err r.refusal) (first rs)) (first ss)
     go true e = refl
     go false e = e
 
@@ -46,20 +45,20 @@ module _ (sides : ℕ) (p : Place) (l start n : ℕ) where
       ap (λ (x : Verdict). or_else x (first (when (out_of_face p l) OutOfFace ∷ []))) e
 
   -- a cell that passes its tests
-  pub within_is : cell_verdict p l (bad_range sides start n) ≡ Fine → within_of (asked_shape sides p l start) n ≡ outline_of sides p l start n
+  pub within_is : cell_verdict p l (bad_range sides start n) ≡ fine → within_of (asked_shape sides p l start) n ≡ outline_of sides p l start n
   unfolding within_of boundary_verdict boundary_points
   within_is e =
       let s = asked_shape sides p l start in
       let turns = turns_for sides n in
-      ap (λ (x : Verdict). boundary_of (or_else x (verdict_to s turns)) (points_to s turns)) (outside_is ∙ sym (reasons_are Fine e))
+      ap (λ (x : Verdict). boundary_of (or_else x (verdict_to s turns)) (points_to s turns)) (outside_is ∙ sym (reasons_are fine e))
 
   -- and one that does not
-  pub refused_is : (r : Refusal) → cell_verdict p l (bad_range sides start n) ≡ Refused r → boundary_of (Refused r) [] ≡ outline_of sides p l start n
+  pub refused_is : (r : Refusal) → cell_verdict p l (bad_range sides start n) ≡ Err r → Err r ≡ outline_of sides p l start n
   unfolding boundary_verdict boundary_points
   refused_is r e =
       let s = asked_shape sides p l start in
       let turns = turns_for sides n in
-      ap (λ (x : Verdict). boundary_of (or_else x (verdict_to s turns)) (points_to s turns)) (sym (reasons_are (Refused r) e))
+      ap (λ (x : Verdict). boundary_of (or_else x (verdict_to s turns)) (points_to s turns)) (sym (reasons_are (Err r) e))
 
 -- start and length within their range
 pub ranged : (sides start n : ℕ) → bad_range sides start n ≡ false → (start < sides) × (n ≤ sides)
@@ -77,8 +76,8 @@ turns_few sides n h = go (eqb n sides)
 -- the record says what the reply has
 said_is : (v : Verdict) (ps : List BoundaryPoint) → said_boundary (boundary_of v ps) ≡ reply 49 v (boundary_values ps)
 unfolding of_bits to_bits
-said_is Fine ps = refl
-said_is (Refused r) ps = refl
+said_is (Ok _) ps = refl
+said_is (Err r) ps = refl
 
 pub outline_said : (sides : ℕ) (p : Place) (l start n : ℕ) → said_boundary (outline_of sides p l start n) ≡ boundary_reply sides p l start n
 outline_said sides p l start n = said_is (boundary_verdict sides p l start n) (boundary_points sides p l start n)

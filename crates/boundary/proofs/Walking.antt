@@ -6,14 +6,12 @@ use native.Mathlib.Decide.{dec_le}
 use native.Mathlib.Omega.{arith}
 use lib.ListN.{length, set, length-append}
 use borrow.Author.Tests.{ne_eqb}
+use Rattle.reply.specs.Replies.{Verdict, fine}
+use Rattle.std.specs.Prelude.{Ok, Err, Result, Option, Some, None}
 use Rattle.reply.specs.declared.Refusal.{Refusal}
-use Rattle.reply.specs.declared.Verdict.{Verdict}
-use Rattle.reply.specs.declared.Verdict.TheVariants.{Fine}
 use Rattle.faceijk.specs.declared.Landed.{Landed}
 use Rattle.boundary.specs.declared.Shape.{Shape}
 use Rattle.boundary.specs.declared.BoundaryPoint.{BoundaryPoint}
-use Rattle.boundary.specs.declared.Before.{Before}
-use Rattle.boundary.specs.declared.Before.TheVariants.{Nothing, Point, Refused}
 use Rattle.boundary.specs.Landing.{land_at}
 use Rattle.boundary.specs.CrossingPoints.{corner_point, before_at}
 use Rattle.boundary.specs.Boundaries.{points_before, points_to, or_else, verdict_before, verdict_to, no_point, padded}
@@ -24,23 +22,23 @@ use Rattle.boundary.proofs.Counting.{crossings_few, mid_points, next_in, next_pa
 
 -- after k turns
 pub record Walking (s : Shape) (points : List BoundaryPoint) (count : ℕ) (last : Landed) (k : ℕ) : Type 0 where
-  pub fine : verdict_to s k ≡ Fine
+  pub fine : verdict_to s k ≡ fine
   pub laid : points ≡ padded (points_to s k)
   pub counted : count ≡ length (points_to s k)
   pub came : last ≡ last_at s k
 
 -- in turn k, before its corner
 pub record Between (s : Shape) (points : List BoundaryPoint) (count k : ℕ) : Type 0 where
-  pub fine : verdict_to s (suc k) ≡ Fine
+  pub fine : verdict_to s (suc k) ≡ fine
   pub laid : points ≡ padded (mid_points s k)
   pub counted : count ≡ length (mid_points s k)
 
-verdict_next : (s : Shape) (k : ℕ) (b : Before) → verdict_to s k ≡ Fine → before_at s k ≡ b → verdict_to s (suc k) ≡ verdict_before b
+verdict_next : (s : Shape) (k : ℕ) (b : Result (Option BoundaryPoint) Refusal) → verdict_to s k ≡ fine → before_at s k ≡ b → verdict_to s (suc k) ≡ verdict_before b
 unfolding verdict_to
 verdict_next s k b f e = ap (λ (v : Verdict). or_else v (verdict_before (before_at s k))) f ∙ ap verdict_before e
 
-mid_next : (s : Shape) (k : ℕ) (b : Before) → before_at s k ≡ b → mid_points s k ≡ points_to s k ++ points_before b
-mid_next s k b e = ap (λ (x : Before). points_to s k ++ points_before x) e
+mid_next : (s : Shape) (k : ℕ) (b : Result (Option BoundaryPoint) Refusal) → before_at s k ≡ b → mid_points s k ≡ points_to s k ++ points_before b
+mid_next s k b e = ap (λ (x : Result (Option BoundaryPoint) Refusal). points_to s k ++ points_before x) e
 
 pub before_is : (s : Shape) (k : ℕ) → before_from s k (last_at s k) (land_at s k) ≡ before_at s k
 unfolding before_at before_from last_at
@@ -48,24 +46,24 @@ before_is s zero = refl
 before_is s (suc k) = rw (ne_eqb (suc k) 0 (λ e. omega arith))
 
 module _ (s : Shape) (points : List BoundaryPoint) (count : ℕ) (last : Landed) (k : ℕ) (now : Walking s points count last k) where
-  pub found_is : (b : Before) (land : Landed) → b ≡ before_from s k last land → land ≡ land_at s k → before_at s k ≡ b
+  pub found_is : (b : Result (Option BoundaryPoint) Refusal) (land : Landed) → b ≡ before_from s k last land → land ≡ land_at s k → before_at s k ≡ b
   found_is b land e h = sym (e ∙ ((λ n. before_from s k (now.came n) (h n)) ∙ before_is s k))
 
   -- there is room for a crossing point
   pub room : k ≤ s.sides → s.sides ≤ 6 → count < 12
   room h few = omega (arith, now.counted, count_is s k h, crossings_few s k)
 
-  pub with_none : before_at s k ≡ Nothing → Between s points count k
+  pub with_none : before_at s k ≡ Ok None → Between s points count k
   with_none e =
-      let m = mid_next s k Nothing e ∙ append-nil (points_to s k) in
-      record { fine = verdict_next s k Nothing now.fine e; laid = now.laid ∙ ap padded (sym m); counted = now.counted ∙ ap length (sym m) }
+      let m = mid_next s k (Ok None) e ∙ append-nil (points_to s k) in
+      record { fine = verdict_next s k (Ok None) now.fine e; laid = now.laid ∙ ap padded (sym m); counted = now.counted ∙ ap length (sym m) }
 
-  pub with_point : (p : BoundaryPoint) → before_at s k ≡ Point p → count < 12 → Between s (set points count p) (count + 1) k
+  pub with_point : (p : BoundaryPoint) → before_at s k ≡ Ok (Some p) → count < 12 → Between s (set points count p) (count + 1) k
   with_point p e h =
-      let m = mid_next s k (Point p) e in
+      let m = mid_next s k (Ok (Some p)) e in
       let few : length (points_to s k) < 12 = omega (arith, now.counted) in
       record {
-        fine = verdict_next s k (Point p) now.fine e;
+        fine = verdict_next s k (Ok (Some p)) now.fine e;
         laid = (λ n. set (now.laid n) (now.counted n) p) ∙ (put no_point (points_to s k) p few ∙ ap padded (sym m));
         counted = ap (λ (n : ℕ). n + 1) now.counted ∙ (sym (length-append (points_to s k) (p ∷ [])) ∙ ap length (sym m));
       }
@@ -97,23 +95,23 @@ module _ (s : Shape) (points : List BoundaryPoint) (count k : ℕ) (mid : Betwee
       }
 
 -- A walk that is refused stays refused, by the first crossing point that was needed.
-pub stays : (s : Shape) (k : ℕ) (r : Refusal) → verdict_to s k ≡ Verdict.Refused r → (n : ℕ) → k ≤ n → verdict_to s n ≡ Verdict.Refused r
+pub stays : (s : Shape) (k : ℕ) (r : Refusal) → verdict_to s k ≡ Err r → (n : ℕ) → k ≤ n → verdict_to s n ≡ Err r
 unfolding verdict_to
-stays s k r e zero h = let z : k ≡ 0 = omega arith in subst (λ (m : ℕ). verdict_to s m ≡ Verdict.Refused r) z e
+stays s k r e zero h = let z : k ≡ 0 = omega arith in subst (λ (m : ℕ). verdict_to s m ≡ Err r) z e
 stays s k r e (suc n) h =
     elim (dec_le k n) [
       | yes a ↦ ap (λ (v : Verdict). or_else v (verdict_before (before_at s n))) (stays s k r e n a)
-      | no a ↦ let z : k ≡ suc n = omega arith in subst (λ (m : ℕ). verdict_to s m ≡ Verdict.Refused r) z e
+      | no a ↦ let z : k ≡ suc n = omega arith in subst (λ (m : ℕ). verdict_to s m ≡ Err r) z e
     ]
 
-pub stopped : (s : Shape) (k turns : ℕ) (r : Refusal) (ps : List BoundaryPoint) → verdict_to s k ≡ Fine → before_at s k ≡ Refused r → k < turns → boundary_of (Verdict.Refused r) ps ≡ boundary_of (verdict_to s turns) (points_to s turns)
-stopped s k turns r ps f e h =
-    let v = stays s (suc k) r (verdict_next s k (Refused r) f e) turns (omega arith) in
+pub stopped : (s : Shape) (k turns : ℕ) (r : Refusal) → verdict_to s k ≡ fine → before_at s k ≡ Err r → k < turns → Err r ≡ boundary_of (verdict_to s turns) (points_to s turns)
+stopped s k turns r f e h =
+    let v = stays s (suc k) r (verdict_next s k (Err r) f e) turns (omega arith) in
     ap (λ (x : Verdict). boundary_of x (points_to s turns)) (sym v)
 
-pub ended : (s : Shape) (points : List BoundaryPoint) (count : ℕ) (last : Landed) (k : ℕ) → Walking s points count last k → record { refusal = Fine; count = count; points = points } ≡ boundary_of (verdict_to s k) (points_to s k)
+pub ended : (s : Shape) (points : List BoundaryPoint) (count : ℕ) (last : Landed) (k : ℕ) → Walking s points count last k → Ok (record { count = count; points = points }) ≡ boundary_of (verdict_to s k) (points_to s k)
 ended s points count last k w =
-    (λ n. record { refusal = Fine; count = w.counted n; points = w.laid n }) ∙
+    (λ n. Ok (record { count = w.counted n; points = w.laid n })) ∙
     ap (λ (v : Verdict). boundary_of v (points_to s k)) (sym w.fine)
 
 -- before the first turn

@@ -1,10 +1,9 @@
 -- Definitions in the code's shape, which only inner functions promise: the tests apart, a table by columns, what stands before a corner that is known, the record itself, and what the code's sums ask for. No entry's promise stands on them; DECISIONS names the laws that tie them to the paper's.
-use Rattle.std.specs.Prelude.{◌≡◌, Bool, false, List, [], ◌∷◌, ℕ, ◌+◌, ◌*◌, ◌/◌, ◌%◌, ◌^◌, ◌≤◌, ◌<◌, length, replicate, eqb, ltb}
+use Rattle.reply.specs.declared.Refusal.{Refusal}
+use Rattle.std.specs.Prelude.{◌≡◌, Bool, false, List, [], ◌∷◌, ℕ, ◌+◌, ◌*◌, ◌/◌, ◌%◌, ◌^◌, ◌≤◌, ◌<◌, length, eqb, ltb, Ok, Err, Result, Option, None}
 use Rattle.reply.specs.Choice.{pick}
-use Rattle.reply.specs.declared.Verdict.{Verdict}
-use Rattle.reply.specs.declared.Verdict.TheVariants.{Fine}
 use Rattle.reply.specs.declared.Refusal.TheVariants.{OutOfFace}
-use Rattle.reply.specs.Replies.{when, first}
+use Rattle.reply.specs.Replies.{when, first, Verdict}
 use Rattle.level.specs.Levels.{bad_grid, limit_of}
 use Rattle.coordijk.specs.declared.CoordIJK.{CoordIJK}
 use Rattle.faceijk.specs.declared.Place.{Place}
@@ -13,12 +12,10 @@ use Rattle.faceijk.specs.Places.{sum_at}
 use Rattle.boundary.specs.declared.Shape.{Shape}
 use Rattle.boundary.specs.declared.BoundaryPoint.{BoundaryPoint}
 use Rattle.boundary.specs.declared.Boundary.{Boundary}
-use Rattle.boundary.specs.declared.Before.{Before}
-use Rattle.boundary.specs.declared.Before.TheVariants.{Nothing}
 use Rattle.boundary.specs.Corners.{range_reasons, cell_reasons}
 use Rattle.boundary.specs.Landing.{substrate_of, vertex_of}
 use Rattle.boundary.specs.CrossingPoints.{crossing_between}
-use Rattle.boundary.specs.Boundaries.{points_to, or_else, verdict_to, turns_for, boundary_verdict, boundary_points, no_point, padded}
+use Rattle.boundary.specs.Boundaries.{points_to, or_else, verdict_to, turns_for, boundary_verdict, boundary_points, padded}
 
 -- the tests of a cell, and those that follow face and level
 abbrev pub range_verdict : CoordIJK → Bool → Verdict
@@ -32,22 +29,22 @@ abbrev pub digit_of : ℕ → ℕ → ℕ
 digit_of w v = (w / 2 ^ (4 * v)) % 16
 
 -- before the corner of turn k, from the two corners that the walk holds
-unfoldable pub before_from : Shape → ℕ → Landed → Landed → Before
-before_from s k last now = pick (eqb k 0) Nothing (crossing_between s last now (vertex_of s k))
+unfoldable pub before_from : Shape → ℕ → Landed → Landed → Result (Option BoundaryPoint) Refusal
+before_from s k last now = pick (eqb k 0) (Ok None) (crossing_between s last now (vertex_of s k))
 
 -- the record itself, which the code makes
-abbrev pub boundary_of : Verdict → List BoundaryPoint → Boundary
-boundary_of Fine ps = record { refusal = Fine; count = length ps; points = padded ps }
-boundary_of (Verdict.Refused r) ps = record { refusal = Verdict.Refused r; count = 0; points = replicate 12 no_point }
+abbrev pub boundary_of : Verdict → List BoundaryPoint → Result Boundary Refusal
+boundary_of (Ok _) ps = Ok (record { count = length ps; points = padded ps })
+boundary_of (Err r) ps = Err r
 
-abbrev pub outline_of : ℕ → Place → ℕ → ℕ → ℕ → Boundary
+abbrev pub outline_of : ℕ → Place → ℕ → ℕ → ℕ → Result Boundary Refusal
 outline_of sides p l start n = boundary_of (boundary_verdict sides p l start n) (boundary_points sides p l start n)
 
 -- the same of a cell that is on its substrate grid already
 abbrev pub outside_verdict : Shape → Verdict
 outside_verdict s = first (when (ltb (3 * s.cell.m) (sum_at s.cell.centre)) OutOfFace ∷ [])
 
-unfoldable pub within_of : Shape → ℕ → Boundary
+unfoldable pub within_of : Shape → ℕ → Result Boundary Refusal
 within_of s n =
     let turns = turns_for s.sides n in
     boundary_of (or_else (outside_verdict s) (verdict_to s turns)) (points_to s turns)

@@ -1,12 +1,11 @@
 -- The boundary of a cell: the points of its turns in their order, the record that holds them, and the entries in the paper's numbers.
-use Rattle.std.specs.Prelude.{Bool, true, ◌||◌, List, [], ◌∷◌, ◌++◌, ℕ, zero, suc, ◌+◌, ◌-◌, length, replicate, eqb, ltb, leb}
+use Rattle.reply.specs.declared.Refusal.{Refusal}
+use Rattle.std.specs.Prelude.{Bool, true, ◌||◌, List, [], ◌∷◌, ◌++◌, ℕ, zero, suc, ◌+◌, ◌-◌, length, replicate, eqb, ltb, leb, Ok, Err, Result, Option, Some, None}
 use Rattle.std.specs.Float.{binary64}
 use Rattle.std.specs.Float.Ieee.{to_bits}
 use Rattle.reply.specs.Choice.{pick}
-use Rattle.reply.specs.declared.Verdict.{Verdict}
-use Rattle.reply.specs.declared.Verdict.TheVariants.{Fine}
 use Rattle.reply.specs.declared.Refusal.TheVariants.{OutOfFace}
-use Rattle.reply.specs.Replies.{verdict_number, Reason, when, first, Reply, reply}
+use Rattle.reply.specs.Replies.{Reason, when, first, Reply, said, reply, Verdict, fine}
 use Rattle.double.specs.Double.{nought}
 use Rattle.level.specs.Levels.{raised_of, limit_of}
 use Rattle.coordijk.specs.Coordinates.{sum_of}
@@ -15,17 +14,15 @@ use Rattle.faceijk.specs.Places.{coord_of}
 use Rattle.boundary.specs.declared.Shape.{Shape}
 use Rattle.boundary.specs.declared.BoundaryPoint.{BoundaryPoint}
 use Rattle.boundary.specs.declared.Boundary.{Boundary}
-use Rattle.boundary.specs.declared.Before.{Before}
-use Rattle.boundary.specs.declared.Before.TheVariants.{Nothing, Point, Refused}
 use Rattle.boundary.specs.Corners.{class_iii, through_apertures, cell_reasons}
 use Rattle.boundary.specs.Landing.{cell_of, shape_of, land_at}
 use Rattle.boundary.specs.CrossingPoints.{corner_point, before_at}
 
 -- the points of turn k: the crossing point before its corner, if there is one, and the corner; a turn past all corners only looks for a crossing point on the last edge
-abbrev pub points_before : Before → List BoundaryPoint
-points_before Nothing = []
-points_before (Point p) = p ∷ []
-points_before (Refused r) = []
+abbrev pub points_before : Result (Option BoundaryPoint) Refusal → List BoundaryPoint
+points_before (Ok None) = []
+points_before (Ok (Some p)) = p ∷ []
+points_before (Err r) = []
 
 abbrev pub corners_in : Shape → ℕ → List BoundaryPoint
 corners_in s k = pick (ltb k s.sides) (corner_point (land_at s k).place ∷ []) []
@@ -45,16 +42,16 @@ crossings_to s (suc k) = crossings_to s k + length (points_before (before_at s k
 
 -- the refusal of the first crossing point needed, 12 or 13, in the first k turns
 abbrev pub or_else : Verdict → Verdict → Verdict
-or_else Fine v = v
-or_else (Verdict.Refused r) v = Verdict.Refused r
+or_else (Ok _) v = v
+or_else (Err r) v = Err r
 
-abbrev pub verdict_before : Before → Verdict
-verdict_before Nothing = Fine
-verdict_before (Point p) = Fine
-verdict_before (Refused r) = Verdict.Refused r
+abbrev pub verdict_before : Result (Option BoundaryPoint) Refusal → Verdict
+verdict_before (Ok None) = fine
+verdict_before (Ok (Some p)) = fine
+verdict_before (Err r) = Err r
 
 unfoldable pub verdict_to : Shape → ℕ → Verdict
-verdict_to s zero = Fine
+verdict_to s zero = fine
 verdict_to s (suc k) = or_else (verdict_to s k) (verdict_before (before_at s k))
 
 -- a full length makes one more turn
@@ -101,8 +98,8 @@ points_values [] = []
 points_values (p ∷ ps) = point_values p ++ points_values ps
 
 -- the entries, in the paper's numbers: the count, then face, x, y and mark of each of the twelve points
-abbrev pub said_boundary : Boundary → Reply
-said_boundary b = record { number = verdict_number b.refusal; values = b.count ∷ points_values b.points }
+abbrev pub said_boundary : Result Boundary Refusal → Reply
+said_boundary = said 49 (λ b. b.count ∷ points_values b.points)
 
 abbrev pub boundary_values : List BoundaryPoint → List ℕ
 boundary_values ps = length ps ∷ points_values (padded ps)

@@ -1,9 +1,9 @@
 -- The corners of a cell: document 01, "Corners and boundary", first half.
-use Rattle.std.specs.Prelude.{Bool, List, [], ◌∷◌, ◌++◌, ℕ, ◌+◌, ◌%◌, eqb, get_or}
+use Rattle.std.specs.Prelude.{Bool, List, [], ◌∷◌, ◌++◌, ℕ, ◌+◌, ◌%◌, eqb, get_or, Result}
 use Rattle.reply.specs.Choice.{pick}
-use Rattle.reply.specs.declared.Verdict.{Verdict}
+use Rattle.reply.specs.declared.Refusal.{Refusal}
 use Rattle.reply.specs.declared.Refusal.TheVariants.{BadFace, BadLevel, BadRange, NotReduced}
-use Rattle.reply.specs.Replies.{verdict_number, Reason, when, first, Reply, reply}
+use Rattle.reply.specs.Replies.{Reason, when, first, Reply, said, reply, Verdict}
 use Rattle.level.specs.Levels.{bad_cell, raised_of}
 use Rattle.coordijk.specs.declared.CoordIJK.{CoordIJK}
 use Rattle.coordijk.specs.declared.GridMap.TheVariants.{Aperture3Ccw, Aperture3Cw, Aperture7Cw}
@@ -58,8 +58,11 @@ abbrev pub coords_values : List CoordIJK → List ℕ
 coords_values [] = []
 coords_values (c ∷ cs) = coord_values c ++ coords_values cs
 
-abbrev pub said_corners : Corners → Reply
-said_corners r = record { number = verdict_number r.refusal; values = r.level.0 ∷ coords_values r.corners }
+abbrev pub corners_values : Corners → List ℕ
+corners_values r = r.level.0 ∷ coords_values r.corners
+
+abbrev pub said_corners : Result Corners Refusal → Reply
+said_corners = said 19 corners_values
 
 abbrev pub corners_reply : Place → ℕ → Reply
 corners_reply p l = reply 19 (corners_verdict p l) (raised_of l ∷ coords_values (corners_at (coord_of p) l))

@@ -1,40 +1,43 @@
 // The corners of a cell and its boundary on the plane: `vertices`, `hexagon_boundary` and `pentagon_boundary` of the source.
 #![tactic(auto)]
 
-ghost use Rattle.std.specs.Prelude.{◌≡◌, false, not, ◌||◌, [], ◌+◌, ◌≤◌, ◌<◌, eqb, pos};
+ghost use Rattle.std.specs.Prelude.{◌≡◌, false, not, ◌||◌, ◌+◌, ◌≤◌, ◌<◌, eqb, pos, Ok};
 ghost use Rattle.std.specs.Float.{binary64};
 ghost use Rattle.std.specs.Float.Ieee.{of_int};
+ghost use Rattle.reply.specs.declared.Refusal.TheVariants.{NotAdjacent};
 ghost use Rattle.level.specs.Levels.{bad_grid, raised_of, grid_of, Sound};
 ghost use Rattle.coordijk.specs.Coordinates.{Taken, coord};
 ghost use Rattle.coordijk.specs.Maps.{map_of};
 ghost use Rattle.coordijk.specs.declared.GridMap.TheVariants.{Aperture7Cw};
+ghost use Rattle.vec2d.specs.Points.{point};
 ghost use Rattle.vec2d.specs.Centre.{centre_of};
+ghost use Rattle.vec2d.specs.Closeness.{close};
 ghost use Rattle.faceijk.specs.Places.{place, coord_of, Okay};
-ghost use Rattle.faceijk.specs.Faces.{dir_to};
+ghost use Rattle.faceijk.specs.Faces.{dir_to, edge_number};
+ghost use Rattle.faceijk.specs.Entries.{Numbered};
 ghost use Rattle.faceijk.specs.Crossing.{landed};
-ghost use Rattle.faceijk.specs.declared.Overage.TheVariants.{None};
+ghost use Rattle.faceijk.specs.declared.Overage.{Overage};
 ghost use Rattle.boundary.specs.Corners.{class_iii, through_apertures, offset_of, corner_of, six_corners, said_corners, corners_reply};
 ghost use Rattle.boundary.specs.Landing.{cell_of, substrate_of, corner_place, vertex_of, land_at};
-ghost use Rattle.boundary.specs.CrossingPoints.{point_on, corner_point, edge_line, pointed, cross_at, unless_corner, is_face_edge, away_face, edge_crossing, hexagon_crossing, pentagon_crossing};
+ghost use Rattle.boundary.specs.CrossingPoints.{point_on, corner_point, edge_line, cross_at, is_face_edge, away_face, edge_crossing, hexagon_crossing, pentagon_crossing};
 ghost use Rattle.boundary.specs.Boundaries.{points_to, verdict_to, turns_for, said_boundary, boundary_reply};
 ghost use Rattle.boundary.specs.AsWalked.{digit_of, cell_verdict, range_verdict, Upto, before_from, boundary_of, within_of, Solid, Fit, Deep};
 
 use coordijk::CoordIJK;
-use faceijk::{Landed, Overage, Place};
-use level::{CellLevel, Grid, GridLevel, Gridded, Raised};
-use reply::{Refusal, Verdict};
-use vec2d::{Line, Pointed, Vec2d};
+use faceijk::{Edge, Landed, Overage, Place};
+use level::{CellLevel, Grid, GridLevel};
+use reply::Refusal;
+use vec2d::{Line, Vec2d};
 
 // The six corners of a cell on the substrate grid of its grid level, on the centre's face; a pentagon takes the first five.
-#[derive(Clone, Copy)]
+#[derive(Clone, Copy, Debug, PartialEq, Eq)]
 pub struct Corners {
-    pub refusal: Verdict,
     pub level: GridLevel,
     pub corners: [CoordIJK; 6],
 }
 
 // A point of a boundary on the plane of a face. The mark says what it is: a corner, a crossing point, or, at 0, unused.
-#[derive(Clone, Copy)]
+#[derive(Clone, Copy, Debug, PartialEq)]
 pub struct BoundaryPoint {
     pub face: u32,
     pub mark: u32,
@@ -43,16 +46,15 @@ pub struct BoundaryPoint {
 }
 
 // A count, and in the same record room for twelve points.
-#[derive(Clone, Copy)]
+#[derive(Clone, Copy, Debug, PartialEq)]
 pub struct Boundary {
-    pub refusal: Verdict,
     pub count: u32,
     pub points: [BoundaryPoint; 12],
 }
 
 // A cell on its substrate grid: its centre there, the grid level, that grid, the limit m of the plain grid, and whether it is of Class III. Public for the
-// globe, as are `Shape` and `Before` and what makes and asks them.
-#[derive(Clone, Copy)]
+// globe, as are `Shape` and what makes and asks them.
+#[derive(Clone, Copy, Debug, PartialEq, Eq)]
 pub struct Cell {
     pub centre: Place,
     pub level: GridLevel,
@@ -62,43 +64,32 @@ pub struct Cell {
 }
 
 // What is walked round: a cell, how many sides it has, and the first corner.
-#[derive(Clone, Copy)]
+#[derive(Clone, Copy, Debug, PartialEq, Eq)]
 pub struct Shape {
     pub cell: Cell,
     pub sides: u32,
     pub start: u32,
 }
 
-// What stands before a corner.
-#[derive(Clone, Copy)]
-pub enum Before {
-    Nothing,
-    Point(BoundaryPoint),
-    Refused(Refusal),
-}
-
 // The tests that follow those of face and level.
-fn range_verdict(centre: CoordIJK, bad_range: bool) -> Verdict
+fn range_verdict(centre: CoordIJK, bad_range: bool) -> Result<(), Refusal>
     ensures { result ≡ range_verdict centre bad_range }
 {
     if bad_range {
-        return Verdict::Refused(Refusal::BadRange);
+        return Err(Refusal::BadRange);
     }
     centre.verdict()
 }
 
 // The tests of an entry on a cell, in the order of their numbers. Public for the globe.
-pub fn cell_verdict(centre: Place, level: CellLevel, bad_range: bool) -> Verdict
+pub fn cell_verdict(centre: Place, level: CellLevel, bad_range: bool) -> Result<(), Refusal>
     ensures { result ≡ cell_verdict centre level.0 bad_range }
 {
     if Place::LAST_FACE < centre.face {
-        return Verdict::Refused(Refusal::BadFace);
+        return Err(Refusal::BadFace);
     }
-    let verdict = level.verdict();
-    match verdict {
-        Verdict::Fine => range_verdict(centre.coord(), bad_range),
-        Verdict::Refused(refusal) => Verdict::Refused(refusal),
-    }
+    level.verdict()?;
+    range_verdict(centre.coord(), bad_range)
 }
 
 // Aperture 3 CCW, then CW: three times the coordinates.
@@ -127,31 +118,19 @@ fn through_apertures(c: CoordIJK, odd: bool) -> CoordIJK
     q
 }
 
-// What follows is handed on to entries that take it for sure: the arms of a refusal are never reached, and what they give is never seen.
+// What follows is handed on to entries that take it for sure.
 fn grid_level(level: CellLevel) -> GridLevel
     requires { level.0 ≤ 15 }
     ensures { result ≡ record { 0 = raised_of level.0 } }
 {
-    let raised = level.raise();
-    match raised {
-        Raised::Done(grid) => grid,
-        Raised::Refused(_) => GridLevel(0),
-    }
+    level.raise().unwrap()
 }
 
 fn plain_grid(level: GridLevel) -> Grid
     requires { bad_grid level.0 ≡ false }
     ensures { result ≡ grid_of level.0 false }
 {
-    let gridded = level.grid(false);
-    match gridded {
-        Gridded::Done(grid) => grid,
-        Gridded::Refused(_) => Grid {
-            unit: 0,
-            limit: 0,
-            substrate: false,
-        },
-    }
+    level.grid(false).unwrap()
 }
 
 fn is_odd(level: CellLevel) -> bool
@@ -230,106 +209,62 @@ impl Cell {
 }
 
 // The corners of a cell, `vertices` of the source.
-pub fn corners_of(centre: Place, level: CellLevel) -> Corners
+pub fn corners_of(centre: Place, level: CellLevel) -> Result<Corners, Refusal>
     ensures { said_corners result ≡ corners_reply centre level.0 }
 {
-    let verdict = cell_verdict(centre, level, false);
-    match verdict {
-        Verdict::Fine => {
-            let cell = Cell::made(centre, level);
-            let corners = cell.corners();
-            let grid = cell.level;
-            Corners {
-                refusal: Verdict::Fine,
-                level: grid,
-                corners,
-            }
-        }
-        Verdict::Refused(refusal) => {
-            let corners = [CoordIJK { i: 0, j: 0, k: 0 }; 6];
-            Corners {
-                refusal: Verdict::Refused(refusal),
-                level: GridLevel(0),
-                corners,
-            }
-        }
-    }
+    cell_verdict(centre, level, false)?;
+    let cell = Cell::made(centre, level);
+    Ok(Corners {
+        level: cell.level,
+        corners: cell.corners(),
+    })
 }
 
-// The direction number from one face to another.
-fn edge_to(from: u32, to: u32) -> u32
+// The edge of a face that leads to another.
+fn edge_to(from: u32, to: u32) -> Result<Edge, Refusal>
     requires { from < 20 }
-    ensures { result ≡ dir_to «from» to }
+    ensures { Numbered NotAdjacent (dir_to «from» to) result }
 {
-    faceijk::direction_to(from, to).number()
+    faceijk::direction_to(from, to)
+        .edge()
+        .ok_or(Refusal::NotAdjacent)
 }
 
 fn is_face_edge(overage: Overage) -> bool
     ensures { result ≡ is_face_edge overage }
 {
-    match overage {
-        Overage::FaceEdge => true,
-        Overage::None => false,
-        Overage::NewFace => false,
-    }
+    matches!(overage, Overage::FaceEdge)
 }
 
-// The edge of a face in a direction, on the substrate grid.
-fn edge_line(edge: u32, m: u32) -> Line
-    ensures { result ≡ edge_line edge (of_int binary64 (pos m)) }
+// An edge of a face, on the substrate grid.
+fn edge_line(edge: Edge, m: u32) -> Line
+    ensures { result ≡ edge_line (edge_number edge) (of_int binary64 (pos m)) }
 {
-    let max = m as f64;
+    let max = f64::from(m);
     let v0 = Vec2d::new(3.0 * max, 0.0);
     let v1 = Vec2d::new(-1.5 * max, 3.0 * Vec2d::SIN60 * max);
     let v2 = Vec2d::new(-1.5 * max, -3.0 * Vec2d::SIN60 * max);
-    if edge == 1 {
-        return Line { from: v0, to: v1 };
-    }
-    if edge == 2 {
-        return Line { from: v2, to: v0 };
-    }
-    Line { from: v1, to: v2 }
-}
-
-impl Before {
-    // A point that is met lies on the face that it is projected with.
-    fn pointed(face: u32, met: Pointed) -> Before
-        ensures { result ≡ pointed face met }
-    {
-        match met {
-            Pointed::Done(v) => Before::Point(BoundaryPoint::on(face, v, BoundaryPoint::CROSSING)),
-            Pointed::Refused(refusal) => Before::Refused(refusal),
-        }
-    }
-
-    // No point is needed where it equals one of the two corners.
-    fn unless_corner(self, a: Vec2d, b: Vec2d) -> Before
-        ensures { result ≡ unless_corner a b self }
-    {
-        match self {
-            Before::Nothing => Before::Nothing,
-            Before::Point(p) => {
-                let v = Vec2d::new(p.x, p.y);
-                if a.is_close(v) | b.is_close(v) {
-                    Before::Nothing
-                } else {
-                    Before::Point(p)
-                }
-            }
-            Before::Refused(refusal) => Before::Refused(refusal),
-        }
+    match edge {
+        Edge::IJ => Line { from: v0, to: v1 },
+        Edge::KI => Line { from: v2, to: v0 },
+        Edge::JK => Line { from: v1, to: v2 },
     }
 }
 
 // Where the line from a to b meets an edge of a face.
-fn cross_at(m: u32, face: u32, a: Vec2d, b: Vec2d, edge: u32) -> Before
-    ensures { result ≡ cross_at m face a b edge }
+fn cross_at(
+    m: u32,
+    face: u32,
+    a: Vec2d,
+    b: Vec2d,
+    edge: Edge,
+) -> Result<Option<BoundaryPoint>, Refusal>
+    ensures { result ≡ cross_at m face a b (edge_number edge) }
 {
-    if (edge < 1) | (3 < edge) {
-        return Before::Refused(Refusal::NotAdjacent);
-    }
     let line = Line { from: a, to: b };
-    Before::pointed(face, line.crossing(edge_line(edge, m)).met())
+    // A point that is met lies on the face that it is projected with.
+    let met = line.crossing(edge_line(edge, m)).met()?;
+    Ok(Some(BoundaryPoint::on(face, met, BoundaryPoint::CROSSING)))
 }
 
 // The face that the line between two corners leaves home for, or comes from.
@@ -341,71 +276,55 @@ fn away_face(home: u32, last: u32, now: u32) -> u32
 
 impl Cell {
     // Where the line to the corner v from the one before it meets the edge to another face, both corners taken on the centre's face.
-    fn edge_crossing(self, away: u32, v: usize) -> Before
+    fn edge_crossing(self, away: u32, v: usize) -> Result<Option<BoundaryPoint>, Refusal>
         requires { Upto 805306368 (coord_of self.centre) × (self.centre.face < 20) × (v < 6) }
         ensures { result ≡ edge_crossing self away v }
     {
         let a = Vec2d::from_ijk(self.corner((v + 5) % 6));
         let b = Vec2d::from_ijk(self.corner(v));
         let home = self.centre.face;
-        let edge = edge_to(home, away);
-        cross_at(self.m, home, a, b, edge).unless_corner(a, b)
+        let edge = edge_to(home, away)?;
+        // No point is needed where it equals one of the two corners.
+        let met = cross_at(self.m, home, a, b, edge)?;
+        Ok(met.filter(|p| !p.is_close(a, b)))
     }
 
-    // The crossing point before the corner v of a hexagon. The tests stand apart from what they let through, so that they cost no call.
-    fn hexagon_crossing(self, last: Landed, now: u32, v: usize) -> Before
+    // The crossing point before the corner v of a hexagon. The tests stand apart from what they let through, so that they cost no call; a walk and the
+    // globe ask it, and of a function that is called from two places the compiler would make neither's part.
+    #[inline(always)]
+    fn hexagon_crossing(
+        self,
+        last: Landed,
+        now: u32,
+        v: usize,
+    ) -> Result<Option<BoundaryPoint>, Refusal>
         requires { Upto 805306368 (coord_of self.centre) × (self.centre.face < 20) × (v < 6) }
         ensures { result ≡ hexagon_crossing self last now v }
     {
         if last.place.face == now {
-            return Before::Nothing;
+            return Ok(None);
         }
         let overage = last.overage;
         if is_face_edge(overage) {
-            return Before::Nothing;
-        }
-        self.edge_crossing(away_face(self.centre.face, last.place.face, now), v)
-    }
-
-    // The same. It stands apart, for the globe: called from two places, the other would be compiled into neither.
-    fn landed_crossing(self, last: Landed, now: u32, v: usize) -> Before
-        requires { Upto 805306368 (coord_of self.centre) × (self.centre.face < 20) × (v < 6) }
-        ensures { result ≡ hexagon_crossing self last now v }
-    {
-        let overage = last.overage;
-        if (last.place.face == now) | is_face_edge(overage) {
-            return Before::Nothing;
+            return Ok(None);
         }
         self.edge_crossing(away_face(self.centre.face, last.place.face, now), v)
     }
 
     // The crossing point between two corners of a pentagon, the second stepped over to the face of the first, whose point there is a.
-    fn pentagon_crossing(self, last: Place, a: Vec2d, now: Place) -> Before
+    #[inline(always)]
+    fn pentagon_crossing(
+        self,
+        last: Place,
+        a: Vec2d,
+        now: Place,
+    ) -> Result<Option<BoundaryPoint>, Refusal>
         requires { Okay now × (self.grid ≡ substrate_of self.level) × Sound self.grid × (a ≡ centre_of (coord_of last)) }
         ensures { result ≡ pentagon_crossing self last now }
     {
-        let edge = edge_to(now.face, last.face);
-        if (edge < 1) | (3 < edge) {
-            return Before::Refused(Refusal::NotAdjacent);
-        }
+        let edge = edge_to(now.face, last.face)?;
         let back = faceijk::back_edge(now.face, edge);
         let over = now.over(edge, self.grid);
-        let b = Vec2d::from_ijk(over.coord());
-        cross_at(self.m, over.face, a, b, back)
-    }
-
-    // The same with nothing kept from the turn before. It stands apart, for the globe, as the hexagon's does.
-    fn settled_crossing(self, last: Place, now: Place) -> Before
-        requires { Okay now × (self.grid ≡ substrate_of self.level) × Sound self.grid }
-        ensures { result ≡ pentagon_crossing self last now }
-    {
-        let edge = edge_to(now.face, last.face);
-        if (edge < 1) | (3 < edge) {
-            return Before::Refused(Refusal::NotAdjacent);
-        }
-        let back = faceijk::back_edge(now.face, edge);
-        let over = now.over(edge, self.grid);
-        let a = Vec2d::from_ijk(last.coord());
         let b = Vec2d::from_ijk(over.coord());
         cross_at(self.m, over.face, a, b, back)
     }
@@ -434,6 +353,14 @@ impl BoundaryPoint {
         }
     }
 
+    // Whether it equals one of two corners.
+    fn is_close(self, a: Vec2d, b: Vec2d) -> bool
+        ensures { result ≡ (close a (point self.x self.y) || close b (point self.x self.y)) }
+    {
+        let v = Vec2d::new(self.x, self.y);
+        a.is_close(v) | b.is_close(v)
+    }
+
     pub fn corner(place: Place) -> BoundaryPoint
         ensures { result ≡ corner_point place }
     {
@@ -442,19 +369,6 @@ impl BoundaryPoint {
             Vec2d::from_ijk(place.coord()),
             BoundaryPoint::CORNER,
         )
-    }
-}
-
-impl Boundary {
-    fn refused(refusal: Refusal) -> Boundary
-        ensures { result ≡ boundary_of (Verdict.Refused refusal) [] }
-    {
-        let points = [BoundaryPoint::UNUSED; 12];
-        Boundary {
-            refusal: Verdict::Refused(refusal),
-            count: 0,
-            points,
-        }
     }
 }
 
@@ -471,7 +385,7 @@ pub fn turns_for(sides: u32, length: u32) -> u32
 
 // A pentagon's landing, whose overage is never asked for.
 fn rested(place: Place) -> Landed
-    ensures { result ≡ landed place None }
+    ensures { result ≡ landed place Overage.None }
 {
     Landed {
         place,
@@ -535,24 +449,35 @@ impl Shape {
     }
 
     // What stands before a hexagon's corner at turn k.
-    fn hexagon_before(self, k: u32, last: Landed, now: Landed) -> Before
+    fn hexagon_before(
+        self,
+        k: u32,
+        last: Landed,
+        now: Landed,
+    ) -> Result<Option<BoundaryPoint>, Refusal>
         requires { Fit self × (k ≤ self.sides) × (self.sides ≡ 6) }
         ensures { result ≡ before_from self k last now }
     {
         if self.bare(k) {
-            return Before::Nothing;
+            return Ok(None);
         }
         self.cell
             .hexagon_crossing(last, now.place.face, self.vertex(k))
     }
 
     // What stands before a pentagon's corner at turn k; a is the last corner's point.
-    fn pentagon_before(self, k: u32, last: Landed, a: Vec2d, now: Landed) -> Before
+    fn pentagon_before(
+        self,
+        k: u32,
+        last: Landed,
+        a: Vec2d,
+        now: Landed,
+    ) -> Result<Option<BoundaryPoint>, Refusal>
         requires { Fit self × Okay now.place × (self.sides ≡ 5) × (0 < k → a ≡ centre_of (coord_of last.place)) }
         ensures { result ≡ before_from self k last now }
     {
         if self.bare(k) {
-            return Before::Nothing;
+            return Ok(None);
         }
         self.cell.pentagon_crossing(last.place, a, now.place)
     }
@@ -569,23 +494,24 @@ impl Shape {
     }
 
     // What stands before the corner at turn k.
-    pub fn before(self, k: u32, last: Landed, now: Landed) -> Before
+    pub fn before(self, k: u32, last: Landed, now: Landed) -> Result<Option<BoundaryPoint>, Refusal>
         requires { Fit self × (k ≤ self.sides) × Okay now.place }
         ensures { result ≡ before_from self k last now }
     {
         if self.bare(k) {
-            return Before::Nothing;
+            return Ok(None);
         }
         if self.sides == 5 {
-            return self.cell.settled_crossing(last.place, now.place);
+            let a = Vec2d::from_ijk(last.place.coord());
+            return self.cell.pentagon_crossing(last.place, a, now.place);
         }
         self.cell
-            .landed_crossing(last, now.place.face, self.vertex(k))
+            .hexagon_crossing(last, now.place.face, self.vertex(k))
     }
 
     // The points of so many turns round a hexagon, or the refusal of the first crossing point needed. A turn past all corners only looks for a
     // crossing point.
-    fn hexagon_walk(self, turns: u32) -> Boundary
+    fn hexagon_walk(self, turns: u32) -> Result<Boundary, Refusal>
         requires { Fit self × (turns ≤ self.sides + 1) × (self.sides ≡ 6) }
         ensures { result ≡ boundary_of (verdict_to self turns) (points_to self turns) }
     {
@@ -596,35 +522,27 @@ impl Shape {
             place: centre,
             overage: Overage::None,
         };
-        let mut k = 0u32;
-        while k < turns {
+        for k in 0..turns {
             let now = self.crossed(k);
-            let found = self.hexagon_before(k, last, now);
-            match found {
-                Before::Nothing => {}
-                Before::Point(point) => {
-                    points[count] = point;
-                    count += 1;
-                }
-                Before::Refused(refusal) => return Boundary::refused(refusal),
+            if let Some(point) = self.hexagon_before(k, last, now)? {
+                points[count] = point;
+                count += 1;
             }
             if k < 6 {
                 points[count] = BoundaryPoint::corner(now.place);
                 count += 1;
             }
             last = now;
-            k += 1;
         }
-        Boundary {
-            refusal: Verdict::Fine,
+        Ok(Boundary {
             count: count as u32,
             points,
-        }
+        })
     }
 
     // The same round a pentagon; the first corner and the last one's point are kept, as both are needed again. The two walks stand apart, as in
     // the source: joined, neither would be compiled into its entry.
-    fn pentagon_walk(self, turns: u32) -> Boundary
+    fn pentagon_walk(self, turns: u32) -> Result<Boundary, Refusal>
         requires { Fit self × (turns ≤ self.sides + 1) × (self.sides ≡ 5) }
         ensures { result ≡ boundary_of (verdict_to self turns) (points_to self turns) }
     {
@@ -634,20 +552,14 @@ impl Shape {
         let mut last = rested(centre);
         let mut first = last;
         let mut at = Vec2d::new(0.0, 0.0);
-        let mut k = 0u32;
-        while k < turns {
+        for k in 0..turns {
             let now = self.settled_once(k, first);
             if k == 0 {
                 first = now;
             }
-            let found = self.pentagon_before(k, last, at, now);
-            match found {
-                Before::Nothing => {}
-                Before::Point(point) => {
-                    points[count] = point;
-                    count += 1;
-                }
-                Before::Refused(refusal) => return Boundary::refused(refusal),
+            if let Some(point) = self.pentagon_before(k, last, at, now)? {
+                points[count] = point;
+                count += 1;
             }
             at = Vec2d::from_ijk(now.place.coord());
             if k < 5 {
@@ -655,97 +567,93 @@ impl Shape {
                 count += 1;
             }
             last = now;
-            k += 1;
         }
-        Boundary {
-            refusal: Verdict::Fine,
+        Ok(Boundary {
             count: count as u32,
             points,
-        }
+        })
     }
 
     // A hexagon whose corners are all within the limit, whichever they are: they stay where they are, and no line leaves the face.
     fn inside(self, length: u32) -> Boundary
         requires { Deep self × (length ≤ self.sides) }
-        ensures { result ≡ boundary_of (verdict_to self (turns_for self.sides length)) (points_to self (turns_for self.sides length)) }
+        ensures { Ok result ≡ boundary_of (verdict_to self (turns_for self.sides length)) (points_to self (turns_for self.sides length)) }
     {
         let mut points = [BoundaryPoint::UNUSED; 12];
-        let mut k = 0u32;
-        while k < length {
+        for k in 0..length {
             points[k as usize] = BoundaryPoint::corner(self.corner(k));
-            k += 1;
         }
         Boundary {
-            refusal: Verdict::Fine,
             count: length,
             points,
         }
     }
 
     // A hexagon's boundary, unless the centre lies out of its face. No offset of a corner has a sum above 9.
-    fn hexagon(self, length: u32) -> Boundary
+    fn hexagon(self, length: u32) -> Result<Boundary, Refusal>
         requires { Solid self × (length ≤ self.sides) × (self.sides ≡ 6) }
         ensures { result ≡ within_of self length }
     {
         let centre = self.cell.centre;
         let sum = centre.sum();
-        let limit = 3 * self.cell.m as u64;
+        let limit = 3 * u64::from(self.cell.m);
         if limit < sum {
-            return Boundary::refused(Refusal::OutOfFace);
+            return Err(Refusal::OutOfFace);
         }
         if sum + 9 < limit {
-            return self.inside(length);
+            return Ok(self.inside(length));
         }
         self.hexagon_walk(turns_for(6, length))
     }
 
     // A pentagon's boundary, unless the centre lies out of its face.
-    fn pentagon(self, length: u32) -> Boundary
+    fn pentagon(self, length: u32) -> Result<Boundary, Refusal>
         requires { Solid self × (length ≤ self.sides) × (self.sides ≡ 5) }
         ensures { result ≡ within_of self length }
     {
         let centre = self.cell.centre;
-        if 3 * (self.cell.m as u64) < centre.sum() {
-            return Boundary::refused(Refusal::OutOfFace);
+        let limit = 3 * u64::from(self.cell.m);
+        if limit < centre.sum() {
+            return Err(Refusal::OutOfFace);
         }
         self.pentagon_walk(turns_for(5, length))
     }
 }
 
 // The boundary of a hexagon: length corners from the corner start on, with the crossing points between them.
-pub fn hexagon_boundary(centre: Place, level: CellLevel, start: u32, length: u32) -> Boundary
+pub fn hexagon_boundary(
+    centre: Place,
+    level: CellLevel,
+    start: u32,
+    length: u32,
+) -> Result<Boundary, Refusal>
     ensures { said_boundary result ≡ boundary_reply 6 centre level.0 start length }
 {
-    let verdict = cell_verdict(centre, level, (6 <= start) | (6 < length));
-    match verdict {
-        Verdict::Fine => {
-            let cell = Cell::made(centre, level);
-            Shape {
-                cell,
-                sides: 6,
-                start,
-            }
-            .hexagon(length)
-        }
-        Verdict::Refused(refusal) => Boundary::refused(refusal),
+    cell_verdict(centre, level, (6 <= start) | (6 < length))?;
+    let cell = Cell::made(centre, level);
+    Shape {
+        cell,
+        sides: 6,
+        start,
     }
+    .hexagon(length)
 }
 
 // The same of a pentagon.
-pub fn pentagon_boundary(centre: Place, level: CellLevel, start: u32, length: u32) -> Boundary
+pub fn pentagon_boundary(
+    centre: Place,
+    level: CellLevel,
+    start: u32,
+    length: u32,
+) -> Result<Boundary, Refusal>
     ensures { said_boundary result ≡ boundary_reply 5 centre level.0 start length }
 {
-    let verdict = cell_verdict(centre, level, (5 <= start) | (5 < length));
-    match verdict {
-        Verdict::Fine => {
-            let cell = Cell::made(centre, level);
-            Shape {
-                cell,
-                sides: 5,
-                start,
-            }
-            .pentagon(length)
-        }
-        Verdict::Refused(refusal) => Boundary::refused(refusal),
+    cell_verdict(centre, level, (5 <= start) | (5 < length))?;
+    let cell = Cell::made(centre, level);
+    Shape {
+        cell,
+        sides: 5,
+        start,
     }
+    .pentagon(length)
 }

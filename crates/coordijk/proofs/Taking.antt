@@ -4,7 +4,7 @@ use mathlib.Core.Bool.{false}
 use native.Mathlib.Omega.{arith}
 use lib.Dec.{ltb}
 use borrow.Author.Tests.{ltb-false, le-ltb}
-use Rattle.reply.specs.declared.Verdict.TheVariants.{Fine}
+use Rattle.reply.specs.Replies.{fine}
 use Rattle.reply.specs.declared.Refusal.TheVariants.{NotReduced}
 use Rattle.reply.proofs.Entries.{neither, passed as reasons_passed}
 use Rattle.coordijk.specs.declared.CoordIJK.{CoordIJK}
@@ -21,8 +21,8 @@ pub passes : (c : CoordIJK) → Taken c → not_reduced c ≡ false
 passes c t = simp (le-ltb 0 (least_of c) (omega arith), le-ltb 67108864 (largest_of c) t.low)
 
 -- where the verdict is fine, the triple is taken
-pub fine_taken : (c : CoordIJK) → verdict_of c ≡ Fine → Taken c
+pub fine_taken : (c : CoordIJK) → verdict_of c ≡ fine → Taken c
 fine_taken c e = passed c (reasons_passed _ NotReduced _ e).0
 
-pub taken_fine : (c : CoordIJK) → Taken c → verdict_of c ≡ Fine
+pub taken_fine : (c : CoordIJK) → Taken c → verdict_of c ≡ fine
 taken_fine c t = simp (passes c t)

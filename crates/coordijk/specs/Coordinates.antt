@@ -1,8 +1,7 @@
 -- Coordinates i, j, k of document 01: reducing, which triples are taken, and the squared distance Q.
 use Rattle.std.specs.Prelude.{◌≡◌, Bool, ◌||◌, List, [], ◌∷◌, ℕ, ◌+◌, ◌-◌, ◌*◌, ◌≤◌, min, max, ltb}
-use Rattle.reply.specs.declared.Verdict.{Verdict}
 use Rattle.reply.specs.declared.Refusal.TheVariants.{NotReduced}
-use Rattle.reply.specs.Replies.{when, first}
+use Rattle.reply.specs.Replies.{when, first, Verdict}
 use Rattle.coordijk.specs.declared.CoordIJK.{CoordIJK}
 
 abbrev pub coord : ℕ → ℕ → ℕ → CoordIJK

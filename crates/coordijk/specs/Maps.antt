@@ -1,11 +1,10 @@
 -- The maps of document 01's table: each sends i, j, k to the three vectors named, adds them up and reduces.
-use Rattle.std.specs.Prelude.{ℕ, zero, suc, ◌+◌, ◌*◌}
-use Rattle.reply.specs.Replies.{Reply, answer, refusal, reply}
+use Rattle.reply.specs.declared.Refusal.{Refusal}
+use Rattle.std.specs.Prelude.{ℕ, zero, suc, ◌+◌, ◌*◌, Result}
+use Rattle.reply.specs.Replies.{Reply, reply, said}
 use Rattle.coordijk.specs.declared.CoordIJK.{CoordIJK}
 use Rattle.coordijk.specs.declared.GridMap.{GridMap}
 use Rattle.coordijk.specs.declared.GridMap.TheVariants.{SixthTurnCcw, SixthTurnCw, Aperture3Ccw, Aperture3Cw, Aperture7Cw}
-use Rattle.coordijk.specs.declared.Mapped.{Mapped}
-use Rattle.coordijk.specs.declared.Mapped.TheVariants.{Done, Refused}
 use Rattle.coordijk.specs.Coordinates.{coord, reduced, verdict_of, coord_values}
 
 -- the vectors that i, j and k are sent to
@@ -41,9 +40,8 @@ turns_of zero c = c
 turns_of (suc n) c = turns_of n (map_of SixthTurnCcw c)
 
 -- the entry, in the paper's numbers
-abbrev pub said_mapped : Mapped → Reply
-said_mapped (Done c) = answer (coord_values c)
-said_mapped (Refused r) = refusal 3 r
+abbrev pub said_mapped : Result CoordIJK Refusal → Reply
+said_mapped = said 3 coord_values
 
 abbrev pub map_reply : GridMap → CoordIJK → Reply
 map_reply m c = reply 3 (verdict_of c) (coord_values (map_of m c))

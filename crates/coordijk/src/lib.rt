@@ -2,13 +2,12 @@
 #![tactic(auto)]
 
 ghost use Rattle.std.specs.Prelude.{◌≡◌, ◌+◌, ◌*◌, ◌≤◌, max};
-ghost use Rattle.reply.specs.Replies.{verdict_number};
 ghost use Rattle.coordijk.specs.Coordinates.{coord, least, reduced, Taken, verdict_of};
 ghost use Rattle.coordijk.specs.Maps.{map_of, said_mapped, map_reply};
 
-use reply::{Refusal, Verdict};
+use reply::Refusal;
 
-#[derive(Clone, Copy)]
+#[derive(Clone, Copy, Debug, PartialEq, Eq)]
 pub struct CoordIJK {
     pub i: u32,
     pub j: u32,
@@ -16,7 +15,7 @@ pub struct CoordIJK {
 }
 
 // The maps of document 01's table, a row each.
-#[derive(Clone, Copy)]
+#[derive(Clone, Copy, Debug, PartialEq, Eq)]
 pub enum GridMap {
     SixthTurnCcw,
     SixthTurnCw,
@@ -25,30 +24,16 @@ pub enum GridMap {
     Aperture7Cw,
 }
 
-#[derive(Clone, Copy)]
-pub enum Mapped {
-    Done(CoordIJK),
-    Refused(Refusal),
-}
-
 fn least_of(i: u32, j: u32, k: u32) -> u32
     ensures { result ≡ least i j k }
 {
-    if i <= j {
-        if i <= k { i } else { k }
-    } else {
-        if j <= k { j } else { k }
-    }
+    i.min(j.min(k))
 }
 
 fn largest_of(i: u32, j: u32, k: u32) -> u32
     ensures { result ≡ max i (max j k) }
 {
-    if i <= j {
-        if j <= k { k } else { j }
-    } else {
-        if i <= k { k } else { i }
-    }
+    i.max(j.max(k))
 }
 
 fn product_plus(times: u32, a: u32, b: u32) -> u32
@@ -81,16 +66,15 @@ impl CoordIJK {
     }
 
     // Whether the triple is taken: reduced, and no coordinate above 2^26.
-    pub fn verdict(self) -> Verdict
-        ensures { verdict_number result ≡ verdict_number (verdict_of self) }
+    pub fn verdict(self) -> Result<(), Refusal>
+        ensures { result ≡ verdict_of self }
     {
-        if 0 < least_of(self.i, self.j, self.k) {
-            return Verdict::Refused(Refusal::NotReduced);
+        if (0 < least_of(self.i, self.j, self.k))
+            | (CoordIJK::LARGEST < largest_of(self.i, self.j, self.k))
+        {
+            return Err(Refusal::NotReduced);
         }
-        if CoordIJK::LARGEST < largest_of(self.i, self.j, self.k) {
-            return Verdict::Refused(Refusal::NotReduced);
-        }
-        Verdict::Fine
+        Ok(())
     }
 
     // So many times self, and i, j, k once, added up and reduced: every row of the table has this form.
@@ -110,9 +94,7 @@ impl CoordIJK {
         requires { Taken self }
         ensures { result ≡ map_of map self }
     {
-        let i = self.i;
-        let j = self.j;
-        let k = self.k;
+        let CoordIJK { i, j, k } = self;
         match map {
             GridMap::SixthTurnCcw => self.times_plus(1, k, i, j),
             GridMap::SixthTurnCw => self.times_plus(1, j, k, i),
@@ -122,13 +104,10 @@ impl CoordIJK {
         }
     }
 
-    pub fn map(self, map: GridMap) -> Mapped
+    pub fn map(self, map: GridMap) -> Result<CoordIJK, Refusal>
         ensures { said_mapped result ≡ map_reply map self }
     {
-        let verdict = self.verdict();
-        match verdict {
-            Verdict::Fine => Mapped::Done(self.sent(map)),
-            Verdict::Refused(refusal) => Mapped::Refused(refusal),
-        }
+        self.verdict()?;
+        Ok(self.sent(map))
     }
 }

@@ -8,7 +8,7 @@ ghost use Rattle.double.specs.Double.{finite, size_of, whole_of, parts_of, mul_a
 ghost use Rattle.double.specs.Sizes.{Upto};
 
 // The whole part of a number from 0 up, and what is left of the number without it.
-#[derive(Clone, Copy)]
+#[derive(Clone, Copy, Debug, PartialEq)]
 pub struct Parts {
     pub whole: u32,
     pub left: f64,
@@ -18,10 +18,7 @@ pub struct Parts {
 pub fn size(x: f64) -> f64
     ensures { result ≡ size_of x }
 {
-    if x != x {
-        return x;
-    }
-    f64::from_bits(f64::to_bits(x) % 0x8000_0000_0000_0000)
+    x.abs()
 }
 
 // |x| of a number that is known to be finite: nothing is asked about a NaN. Public for the rounding of plane points.
@@ -29,14 +26,14 @@ pub fn magnitude(x: f64) -> f64
     requires { finite x ≡ true }
     ensures { result ≡ size_of x }
 {
-    f64::from_bits(f64::to_bits(x) % 0x8000_0000_0000_0000)
+    f64::from_bits(x.to_bits() % 0x8000_0000_0000_0000)
 }
 
-// Whether x is neither a NaN nor an infinity: it lies between the two infinities.
+// Whether x is neither a NaN nor an infinity.
 pub fn is_finite(x: f64) -> bool
     ensures { result ≡ finite x }
 {
-    (x < 1.0 / 0.0) & (-1.0 / 0.0 < x)
+    x.is_finite()
 }
 
 // The whole part as a double. From 2^52 on every double is whole, so adding 2^52 rounds x to the nearest whole number, and taking 2^52 off again is exact.

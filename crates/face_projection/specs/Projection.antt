@@ -1,16 +1,14 @@
 -- From a unit vector to a plane point. Document 01, "Place".
-use Rattle.std.specs.Prelude.{Bool, List, [], ◌∷◌, ◌++◌, ℕ, ◌-◌, ◌/◌, ◌%◌, ◌^◌, pos, eqb, Float}
+use Rattle.reply.specs.declared.Refusal.{Refusal}
+use Rattle.std.specs.Prelude.{Bool, List, [], ◌∷◌, ◌++◌, ℕ, ◌-◌, ◌/◌, ◌%◌, ◌^◌, pos, eqb, Float, Ok, Err, Result}
 use Rattle.std.specs.Float.{binary64}
 use Rattle.std.specs.Float.Ieee.{add, sub, mul, div, lt, of_int}
 use Rattle.reply.specs.Choice.{pick}
-use Rattle.reply.specs.declared.Verdict.{Verdict}
 use Rattle.reply.specs.declared.Refusal.TheVariants.{BadFrame, BadFace, BadLevel, Behind}
-use Rattle.reply.specs.Replies.{Reply, Reason, when, first, reply}
+use Rattle.reply.specs.Replies.{Reply, Reason, when, first, reply, Verdict}
 use Rattle.level.specs.Levels.{bad_cell}
 use Rattle.double.specs.Double.{half, two_and_half, sin60}
 use Rattle.vec2d.specs.declared.Vec2d.{Vec2d}
-use Rattle.vec2d.specs.declared.Pointed.{Pointed}
-use Rattle.vec2d.specs.declared.Pointed.TheVariants.{Done, Refused}
 use Rattle.vec2d.specs.Points.{point, point_values}
 use Rattle.vec3d.specs.declared.Vec3d.{Vec3d}
 use Rattle.vec3d.specs.declared.FaceAxes.{FaceAxes}
@@ -50,8 +48,8 @@ at_level l q = pick (eqb (l % 2) 0) (even_level l q) (odd_level l q)
 abbrev pub point_of : FaceAxes → ℕ → Vec3d → Vec2d
 point_of a l p = at_level l (projection_of a p)
 
-unfoldable pub projected_of : FaceAxes → ℕ → Vec3d → Pointed
-projected_of a l p = pick (behind a p) (Refused Behind) (Done (point_of a l p))
+unfoldable pub projected_of : FaceAxes → ℕ → Vec3d → Result Vec2d Refusal
+projected_of a l p = pick (behind a p) (Err Behind) (Ok (point_of a l p))
 
 -- the entry, in the paper's numbers. What stands before the vector is looked at; what is left for a vector and a face that will do
 abbrev pub before_reasons : List Float → ℕ → ℕ → List Reason

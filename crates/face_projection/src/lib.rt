@@ -9,12 +9,12 @@ ghost use Rattle.face_projection.specs.Projection.{seven_to, projection_of, at_l
 
 use faceijk::Place;
 use level::CellLevel;
-use reply::{Refusal, Verdict};
-use vec2d::{Pointed, Vec2d};
+use reply::Refusal;
+use vec2d::Vec2d;
 use vec3d::{FaceAxes, Vec3d};
 
 // The part of the projection that all levels share: x0 and y0.
-#[derive(Clone, Copy)]
+#[derive(Clone, Copy, Debug, PartialEq)]
 pub struct FaceProjection {
     pub x0: f64,
     pub y0: f64,
@@ -26,20 +26,18 @@ const BEHIND: f64 = 0.5;
 // 7^(level/2) for the cell levels 0, 2, .., 14.
 const POWERS: [f64; 8] = [1.0, 7.0, 49.0, 343.0, 2401.0, 16807.0, 117649.0, 823543.0];
 
-fn power(level: u32) -> f64
-    requires { level ≤ 15 }
-    ensures { result ≡ seven_to (level / 2) }
+fn power(level: CellLevel) -> f64
+    requires { level.0 ≤ 15 }
+    ensures { result ≡ seven_to (level.0 / 2) }
 {
-    POWERS[(level / 2) as usize]
+    POWERS[(level.0 / 2) as usize]
 }
 
 impl FaceProjection {
     pub fn new(axes: FaceAxes, p: Vec3d) -> FaceProjection
         ensures { result ≡ projection_of axes p }
     {
-        let centre = axes.centre;
-        let u = axes.u;
-        let v = axes.v;
+        let FaceAxes { centre, u, v } = axes;
         let below = p.dot(centre);
         FaceProjection {
             x0: p.dot(u) / below,
@@ -48,12 +46,12 @@ impl FaceProjection {
     }
 
     // An even level scales the point; an odd one, a Class III level, also turns it.
-    fn at_level(self, level: u32) -> Vec2d
-        requires { level ≤ 15 }
-        ensures { result ≡ at_level level self }
+    fn at_level(self, level: CellLevel) -> Vec2d
+        requires { level.0 ≤ 15 }
+        ensures { result ≡ at_level level.0 self }
     {
         let scale = power(level);
-        if level % 2 == 0 {
+        if level.0 % 2 == 0 {
             return Vec2d::new(self.x0 * scale, self.y0 * scale);
         }
         let x = 2.5 * self.x0 + Vec2d::SIN60 * self.y0;
@@ -63,43 +61,34 @@ impl FaceProjection {
 }
 
 // The plane point on a face, unless the vector is behind it. Public for `locate`, which has tested frame, level and vector.
-pub fn project(axes: FaceAxes, level: u32, p: Vec3d) -> Pointed
-    requires { level ≤ 15 }
-    ensures { result ≡ projected_of axes level p }
+pub fn project(axes: FaceAxes, level: CellLevel, p: Vec3d) -> Result<Vec2d, Refusal>
+    requires { level.0 ≤ 15 }
+    ensures { result ≡ projected_of axes level.0 p }
 {
-    let centre = axes.centre;
-    if p.dot(centre) < BEHIND {
-        return Pointed::Refused(Refusal::Behind);
+    if p.dot(axes.centre) < BEHIND {
+        return Err(Refusal::Behind);
     }
-    Pointed::Done(FaceProjection::new(axes, p).at_level(level))
+    Ok(FaceProjection::new(axes, p).at_level(level))
 }
 
 // What stands in the order of the numbers before the vector is looked at.
-fn verdict_before(frame: &[f64], face: u32, level: CellLevel) -> Verdict
+fn verdict_before(frame: &[f64], face: u32, level: CellLevel) -> Result<(), Refusal>
     ensures { result ≡ first (before_reasons frame.now face level.0) }
 {
     if vec3d::bad_frame(frame) {
-        return Verdict::Refused(Refusal::BadFrame);
+        return Err(Refusal::BadFrame);
     }
     if Place::LAST_FACE < face {
-        return Verdict::Refused(Refusal::BadFace);
+        return Err(Refusal::BadFace);
     }
     level.verdict()
 }
 
 // The plane point of a unit vector on the named face at a cell level.
-pub fn plane_point(frame: &[f64], face: u32, level: CellLevel, p: Vec3d) -> Pointed
+pub fn plane_point(frame: &[f64], face: u32, level: CellLevel, p: Vec3d) -> Result<Vec2d, Refusal>
     ensures { said_pointed result ≡ plane_reply frame.now face level.0 p }
 {
-    let before = verdict_before(frame, face, level);
-    match before {
-        Verdict::Fine => {
-            let verdict = p.verdict();
-            match verdict {
-                Verdict::Fine => project(vec3d::face_at(frame, face), level.0, p),
-                Verdict::Refused(refusal) => Pointed::Refused(refusal),
-            }
-        }
-        Verdict::Refused(refusal) => Pointed::Refused(refusal),
-    }
+    verdict_before(frame, face, level)?;
+    p.verdict()?;
+    project(vec3d::face_at(frame, face), level, p)
 }

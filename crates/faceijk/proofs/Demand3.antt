@@ -3,8 +3,7 @@ use mathlib.Core.Path.{◌≡◌, sym, ap, ◌∙◌}
 use mathlib.Core.Bool.{Bool, false}
 use Prim.Native.Nat.{ℕ, ◌+◌, ◌-◌, ◌*◌, ◌/◌, ◌≤◌, ◌<◌}
 use native.Mathlib.Omega.{arith}
-use Rattle.reply.specs.declared.Verdict.TheVariants.{Fine}
-use Rattle.reply.specs.Replies.{answer}
+use Rattle.reply.specs.Replies.{answer, fine}
 use Rattle.reply.proofs.Entries.{answers}
 use Rattle.level.specs.declared.Grid.{Grid}
 use Rattle.level.specs.Levels.{grid_of, limit_of, Sound}
@@ -34,7 +33,7 @@ pub record Made (p q : Place) (l : ℕ) (substrate : Bool) : Type 0 where
   -- the bare step back over that edge, by its number as seen from the new face, is taken and restores the record, face included
   pub restores : step_reply q l substrate (dir_to q.face p.face) ≡ answer (place_values p)
 
-module _ (p : Place) (l : ℕ) (substrate : Bool) (taken : on_grid_verdict p l ≡ Fine) (far : limit_of l substrate < sum_at p) where
+module _ (p : Place) (l : ℕ) (substrate : Bool) (taken : on_grid_verdict p l ≡ fine) (far : limit_of l substrate < sum_at p) where
   abbrev grid : Grid
   grid = grid_of l substrate
 
@@ -70,7 +69,7 @@ module _ (p : Place) (l : ℕ) (substrate : Bool) (taken : on_grid_verdict p l �
       )
 
 -- demand 3 of settling: it ends with s at most m, after at most Q / m steps, and the number reported is that of the steps from the start to the place returned
-pub settling_ends : (p : Place) (l : ℕ) (substrate : Bool) → on_grid_verdict p l ≡ Fine → let g = grid_of l substrate in
+pub settling_ends : (p : Place) (l : ℕ) (substrate : Bool) → on_grid_verdict p l ≡ fine → let g = grid_of l substrate in
     (n : ℕ) × (q : Place) × (settle_reply p l substrate ≡ answer (rested_values (rested q n))) × Walk g p n q × (sum_at q ≤ limit_of l substrate) × (n ≤ QAt p / limit_of l substrate) × (largest_of (coord_of q) ≤ largest_of (coord_of p))
 settling_ends p l substrate taken =
     let g = grid_of l substrate in

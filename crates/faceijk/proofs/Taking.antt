@@ -5,11 +5,11 @@ use Prim.Native.Nat.{ℕ, ◌+◌, ◌≤◌, ◌<◌}
 use native.Mathlib.Omega.{arith}
 use lib.Dec.{ltb}
 use borrow.Author.Tests.{ltb-false, le-ltb}
+use Rattle.reply.specs.Replies.{Verdict, fine}
+use Rattle.std.specs.Prelude.{Ok, Err, Result}
 use Rattle.reply.specs.Choice.{pick}
 use Rattle.reply.specs.declared.Refusal.{Refusal}
 use Rattle.reply.specs.declared.Refusal.TheVariants.{BadFace, BadLevel, BadRange, NotReduced}
-use Rattle.reply.specs.declared.Verdict.{Verdict}
-use Rattle.reply.specs.declared.Verdict.TheVariants.{Fine, Refused}
 use Rattle.reply.proofs.Entries.{passed, neither}
 use Rattle.level.specs.declared.Grid.{Grid}
 use Rattle.level.specs.Levels.{bad_grid, grid_of, Sound}
@@ -23,7 +23,6 @@ use Rattle.coordijk.proofs.Reducing.{reduced_low}
 use Rattle.coordijk.proofs.Taking.{passed as taken_passed, passes}
 use Rattle.coordijk.proofs.Turning.{cw_sums}
 use Rattle.faceijk.specs.declared.Place.{Place}
-use Rattle.faceijk.specs.declared.OnGrid.{OnGrid}
 use Rattle.faceijk.specs.Places.{place, coord_of, Okay, Ready, bad_face, place_verdict, on_grid_verdict, over_edge_verdict, on_grid_of}
 use Rattle.faceijk.specs.Crossing.{edge_out, about_corner}
 use Rattle.faceijk.specs.Entries.{bad_edge}
@@ -34,7 +33,7 @@ pub record Accepted (p : Place) (l : ℕ) (b : Bool) : Type 0 where
   pub level : bad_grid l ≡ false
   pub edge : b ≡ false
 
-pub accepted : (p : Place) (l : ℕ) (b : Bool) → over_edge_verdict p l b ≡ Fine → Accepted p l b
+pub accepted : (p : Place) (l : ℕ) (b : Bool) → over_edge_verdict p l b ≡ fine → Accepted p l b
 accepted p l b e =
     let t3 = passed (bad_face p.face) BadFace _ e in
     let t4 = passed (bad_grid l) BadLevel _ t3.1 in
@@ -48,7 +47,7 @@ accepted p l b e =
     }
 
 -- a place that passes is taken
-pub fine_okay : (p : Place) → place_verdict p ≡ Fine → Okay p
+pub fine_okay : (p : Place) → place_verdict p ≡ fine → Okay p
 fine_okay p e =
     let t3 = passed (bad_face p.face) BadFace _ e in
     let t10 = passed (not_reduced (coord_of p)) NotReduced _ t3.1 in
@@ -56,25 +55,25 @@ fine_okay p e =
     record { on = omega arith; taken = taken_passed (coord_of p) t10.0 }
 
 -- the other way round: a place that is taken passes
-pub okay_fine : (p : Place) → Okay p → place_verdict p ≡ Fine
+pub okay_fine : (p : Place) → Okay p → place_verdict p ≡ fine
 okay_fine p o = let f : p.face ≤ 19 = omega (arith, o.on) in simp (le-ltb 19 p.face f, passes (coord_of p) o.taken)
 
-pub okay_on_grid : (p : Place) (l : ℕ) → Okay p → bad_grid l ≡ false → on_grid_verdict p l ≡ Fine
+pub okay_on_grid : (p : Place) (l : ℕ) → Okay p → bad_grid l ≡ false → on_grid_verdict p l ≡ fine
 okay_on_grid p l o h = let f : p.face ≤ 19 = omega (arith, o.on) in simp (le-ltb 19 p.face f, h, passes (coord_of p) o.taken)
 
-pub okay_over_edge : (p : Place) (l e : ℕ) → Okay p → bad_grid l ≡ false → 1 ≤ e → e ≤ 3 → over_edge_verdict p l (bad_edge e) ≡ Fine
+pub okay_over_edge : (p : Place) (l e : ℕ) → Okay p → bad_grid l ≡ false → 1 ≤ e → e ≤ 3 → over_edge_verdict p l (bad_edge e) ≡ fine
 okay_over_edge p l e o h low high =
     let f : p.face ≤ 19 = omega (arith, o.on) in
     simp (le-ltb 19 p.face f, h, le-ltb e 1 low, le-ltb 3 e high, passes (coord_of p) o.taken)
 
 -- what an entry on a grid learns of its tests
-pub fine_told : (v : Verdict) (h g : Grid) (x : OnGrid) → x ≡ OnGrid.Fine g → x ≡ on_grid_of v h → (v ≡ Fine) × (g ≡ h)
-fine_told Fine h g x is e = (refl, cc)
-fine_told (Refused r) h g x is e = let z : ◌≡◌ {A = ℕ} 0 1 = cc in absurd (omega arith)
+pub fine_told : (v : Verdict) (h g : Grid) (x : Result Grid Refusal) → x ≡ Ok g → x ≡ on_grid_of v h → (v ≡ fine) × (g ≡ h)
+fine_told (Ok _) h g x is e = (refl, cc)
+fine_told (Err r) h g x is e = let z : ◌≡◌ {A = ℕ} 0 1 = cc in absurd (omega arith)
 
-pub refused_told : (v : Verdict) (h : Grid) (r : Refusal) (x : OnGrid) → x ≡ OnGrid.Refused r → x ≡ on_grid_of v h → v ≡ Refused r
-refused_told Fine h r x is e = let z : ◌≡◌ {A = ℕ} 0 1 = cc in absurd (omega arith)
-refused_told (Refused s) h r x is e = cc
+pub refused_told : (v : Verdict) (h : Grid) (r : Refusal) (x : Result Grid Refusal) → x ≡ Err r → x ≡ on_grid_of v h → v ≡ Err r
+refused_told (Ok _) h r x is e = let z : ◌≡◌ {A = ℕ} 0 1 = cc in absurd (omega arith)
+refused_told (Err s) h r x is e = cc
 
 pub sound_at : (l : ℕ) (s : Bool) → bad_grid l ≡ false → Sound (grid_of l s)
 sound_at l s h = grid_sound l s (grid_low l h)
@@ -115,17 +114,17 @@ start_ready false g p r e o s = rw e (okay_ready o, o.on)
 
 -- all of that at once: an entry whose tests gave the grid g
 pub record Entered (p : Place) (l : ℕ) (s b : Bool) (g : Grid) : Type 0 where
-  pub fine : over_edge_verdict p l b ≡ Fine
+  pub fine : over_edge_verdict p l b ≡ fine
   pub is : g ≡ grid_of l s
   pub okay : Okay p
   pub sound : Sound g
   pub edge : b ≡ false
 
-pub entered : (p : Place) (l : ℕ) (s b : Bool) {x : OnGrid} {g : Grid} → x ≡ OnGrid.Fine g → x ≡ on_grid_of (over_edge_verdict p l b) (grid_of l s) → Entered p l s b g
+pub entered : (p : Place) (l : ℕ) (s b : Bool) {x : Result Grid Refusal} {g : Grid} → x ≡ Ok g → x ≡ on_grid_of (over_edge_verdict p l b) (grid_of l s) → Entered p l s b g
 entered p l s b {x} {g} is e =
     let t = fine_told (over_edge_verdict p l b) (grid_of l s) g x is e in
     let a = accepted p l b t.0 in
     record { fine = t.0; is = t.1; okay = a.okay; sound = rw t.1 (sound_at l s a.level); edge = a.edge }
 
-pub turned_away : (p : Place) (l : ℕ) (s b : Bool) {x : OnGrid} {r : Refusal} → x ≡ OnGrid.Refused r → x ≡ on_grid_of (over_edge_verdict p l b) (grid_of l s) → over_edge_verdict p l b ≡ Refused r
+pub turned_away : (p : Place) (l : ℕ) (s b : Bool) {x : Result Grid Refusal} {r : Refusal} → x ≡ Err r → x ≡ on_grid_of (over_edge_verdict p l b) (grid_of l s) → over_edge_verdict p l b ≡ Err r
 turned_away p l s b {x} {r} is e = refused_told (over_edge_verdict p l b) (grid_of l s) r x is e

@@ -1,13 +1,16 @@
 -- Two outcomes of an entry on places that meet one promise coincide, what a caller learns of an answer, and that the foremost refusal is given. Assumes nothing.
 use mathlib.Core.Path.{◌≡◌, refl, sym, ap, ◌∙◌}
-use mathlib.Core.Bool.{Bool, true}
+use mathlib.Core.Bool.{Bool, true, ◌&&◌}
 use Prim.Native.Nat.{ℕ, zero, suc}
 use native.Mathlib.Omega.{arith}
 use lib.Dec.{eqb}
 use borrow.Author.Tests.{eq-eqb, eqb-true}
-use Rattle.reply.specs.declared.Verdict.TheVariants.{Fine}
+use Rattle.std.proofs.Math.Bool.{and_assoc}
+use Rattle.reply.specs.declared.Refusal.{Refusal}
+use Rattle.reply.specs.Replies.{fine}
+use Rattle.std.specs.Prelude.{Ok, Result}
 use Rattle.reply.specs.Order.{Foremost}
-use Rattle.reply.proofs.Entries.{both, values, answer_or_refusal, same_refusal, answered}
+use Rattle.reply.proofs.Entries.{both, one_said, told}
 use Rattle.reply.proofs.Foremost.{foremost}
 use Rattle.level.specs.Levels.{unit_of, grid_of}
 use Rattle.faceijk.specs.declared.Place.{Place}
@@ -17,10 +20,6 @@ use Rattle.faceijk.specs.declared.Landed.{Landed}
 use Rattle.faceijk.specs.declared.Rested.{Rested}
 use Rattle.faceijk.specs.declared.Direction.{Direction}
 use Rattle.faceijk.specs.declared.Direction.TheVariants.{Itself, OverIJ, OverKI, OverJK, Elsewhere}
-use Rattle.faceijk.specs.declared.Moved.{Moved}
-use Rattle.faceijk.specs.declared.Crossed.{Crossed}
-use Rattle.faceijk.specs.declared.Settled.{Settled}
-use Rattle.faceijk.specs.declared.Directed.{Directed}
 use Rattle.faceijk.specs.Places.{place_values, same_place, QAt, place_reasons, on_grid_reasons, over_edge_reasons, place_verdict, on_grid_verdict, over_edge_verdict}
 use Rattle.faceijk.specs.Faces.{direction_number}
 use Rattle.faceijk.specs.Steps.{step_of}
@@ -40,6 +39,10 @@ found_same p q e =
     let b = both _ (eqb p.j q.j) a.0 in
     let c = both (eqb p.face q.face) (eqb p.i q.i) b.0 in
     place_from (eqb-true _ _ c.0) (eqb-true _ _ c.1) (eqb-true _ _ b.1) (eqb-true _ _ a.1)
+
+-- `==` of two places is this test: it joins the four numbers from the last on
+pub is_equal : (p q : Place) → (eqb p.face q.face && (eqb p.i q.i && (eqb p.j q.j && eqb p.k q.k))) ≡ same_place p q
+is_equal p q = rw (and_assoc (eqb p.face q.face && eqb p.i q.i) (eqb p.j q.j) (eqb p.k q.k), and_assoc (eqb p.face q.face) (eqb p.i q.i) (eqb p.j q.j && eqb p.k q.k)) refl
 
 pub same_itself : (p : Place) → same_place p p ≡ true
 same_itself p = simp (eq-eqb p.face p.face refl, eq-eqb p.i p.i refl, eq-eqb p.j p.j refl, eq-eqb p.k p.k refl)
@@ -90,46 +93,28 @@ same_rested a b v =
     λ n. record { place = p n; steps = s n }
 
 -- two outcomes that meet one promise coincide, for each answer
-pub one_moved : (a b : Moved) → said_moved a ≡ said_moved b → a ≡ b
-one_moved (Moved.Done p) (Moved.Done q) e = ap Moved.Done (same_place_lem p q (values e))
-one_moved (Moved.Done p) (Moved.Refused r) e = answer_or_refusal 4 _ r e
-one_moved (Moved.Refused r) (Moved.Done p) e = answer_or_refusal 4 _ r (sym e)
-one_moved (Moved.Refused r) (Moved.Refused s) e = ap Moved.Refused (same_refusal 4 r s e)
+pub one_moved : (a b : Result Place Refusal) → said_moved a ≡ said_moved b → a ≡ b
+one_moved = one_said 4 place_values same_place_lem
 
-pub one_crossed : (a b : Crossed) → said_crossed a ≡ said_crossed b → a ≡ b
-one_crossed (Crossed.Done x) (Crossed.Done y) e = ap Crossed.Done (same_landed x y (values e))
-one_crossed (Crossed.Done x) (Crossed.Refused r) e = answer_or_refusal 5 _ r e
-one_crossed (Crossed.Refused r) (Crossed.Done x) e = answer_or_refusal 5 _ r (sym e)
-one_crossed (Crossed.Refused r) (Crossed.Refused s) e = ap Crossed.Refused (same_refusal 5 r s e)
+pub one_crossed : (a b : Result Landed Refusal) → said_crossed a ≡ said_crossed b → a ≡ b
+one_crossed = one_said 5 landed_values same_landed
 
-pub one_settled : (a b : Settled) → said_settled a ≡ said_settled b → a ≡ b
-one_settled (Settled.Done x) (Settled.Done y) e = ap Settled.Done (same_rested x y (values e))
-one_settled (Settled.Done x) (Settled.Refused r) e = answer_or_refusal 5 _ r e
-one_settled (Settled.Refused r) (Settled.Done x) e = answer_or_refusal 5 _ r (sym e)
-one_settled (Settled.Refused r) (Settled.Refused s) e = ap Settled.Refused (same_refusal 5 r s e)
+pub one_settled : (a b : Result Rested Refusal) → said_settled a ≡ said_settled b → a ≡ b
+one_settled = one_said 5 rested_values same_rested
 
-pub one_directed : (a b : Directed) → said_directed a ≡ said_directed b → a ≡ b
-one_directed (Directed.Done x) (Directed.Done y) e = let v = values e in ap Directed.Done (same_direction x y (cc))
-one_directed (Directed.Done x) (Directed.Refused r) e = answer_or_refusal 1 _ r e
-one_directed (Directed.Refused r) (Directed.Done x) e = answer_or_refusal 1 _ r (sym e)
-one_directed (Directed.Refused r) (Directed.Refused s) e = ap Directed.Refused (same_refusal 1 r s e)
+pub one_directed : (a b : Result Direction Refusal) → said_directed a ≡ said_directed b → a ≡ b
+one_directed = one_said 1 _ (λ x y v. same_direction x y (cc))
 
 -- what a caller learns of an answer that is given
 module _ (p : Place) (l : ℕ) (substrate : Bool) where
-  pub step_told : (e : ℕ) {x : Moved} {q : Place} → x ≡ Moved.Done q → said_moved x ≡ step_reply p l substrate e → (over_edge_verdict p l (bad_edge e) ≡ Fine) × (q ≡ step_of p e (unit_of l substrate))
-  step_told e {x} {q} is h =
-      let t = answered 4 (over_edge_verdict p l (bad_edge e)) (place_values q) _ (ap said_moved (sym is) ∙ h) in
-      (t.0, same_place_lem q _ t.1)
+  pub step_told : (e : ℕ) {x : Result Place Refusal} {q : Place} → x ≡ Ok q → said_moved x ≡ step_reply p l substrate e → (over_edge_verdict p l (bad_edge e) ≡ fine) × (q ≡ step_of p e (unit_of l substrate))
+  step_told e {x} {q} is h = let t = told 4 place_values (over_edge_verdict p l (bad_edge e)) _ is h in (t.0, same_place_lem q _ t.1)
 
-  pub cross_told : (turn : Bool) {x : Crossed} {c : Landed} → x ≡ Crossed.Done c → said_crossed x ≡ cross_reply p l substrate turn → (on_grid_verdict p l ≡ Fine) × (c ≡ crossing_of turn (grid_of l substrate) p)
-  cross_told turn {x} {c} is h =
-      let t = answered 5 (on_grid_verdict p l) (landed_values c) _ (ap said_crossed (sym is) ∙ h) in
-      (t.0, same_landed c _ t.1)
+  pub cross_told : (turn : Bool) {x : Result Landed Refusal} {c : Landed} → x ≡ Ok c → said_crossed x ≡ cross_reply p l substrate turn → (on_grid_verdict p l ≡ fine) × (c ≡ crossing_of turn (grid_of l substrate) p)
+  cross_told turn {x} {c} is h = let t = told 5 landed_values (on_grid_verdict p l) _ is h in (t.0, same_landed c _ t.1)
 
-  pub settle_told : {x : Settled} {s : Rested} → x ≡ Settled.Done s → said_settled x ≡ settle_reply p l substrate → (on_grid_verdict p l ≡ Fine) × (s ≡ settle_from (QAt p) (grid_of l substrate) p 0)
-  settle_told {x} {s} is h =
-      let t = answered 5 (on_grid_verdict p l) (rested_values s) _ (ap said_settled (sym is) ∙ h) in
-      (t.0, same_rested s _ t.1)
+  pub settle_told : {x : Result Rested Refusal} {s : Rested} → x ≡ Ok s → said_settled x ≡ settle_reply p l substrate → (on_grid_verdict p l ≡ fine) × (s ≡ settle_from (QAt p) (grid_of l substrate) p 0)
+  settle_told {x} {s} is h = let t = told 5 rested_values (on_grid_verdict p l) _ is h in (t.0, same_rested s _ t.1)
 
 -- the refusal given is the foremost
 pub place_foremost : (p : Place) → Foremost (place_reasons p) (place_verdict p)

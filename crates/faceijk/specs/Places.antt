@@ -1,15 +1,13 @@
 -- A place of document 01: a face 0..19 and coordinates i, j, k; and which places an entry takes.
-use Rattle.std.specs.Prelude.{Bool, ◌&&◌, List, [], ◌∷◌, ℕ, ◌≤◌, ◌<◌, eqb, ltb}
-use Rattle.reply.specs.declared.Verdict.{Verdict}
-use Rattle.reply.specs.declared.Verdict.TheVariants.{Fine, Refused}
+use Rattle.reply.specs.declared.Refusal.{Refusal}
+use Rattle.std.specs.Prelude.{Bool, ◌&&◌, List, [], ◌∷◌, ℕ, ◌≤◌, ◌<◌, eqb, ltb, Ok, Err, Result}
 use Rattle.reply.specs.declared.Refusal.TheVariants.{BadFace, BadLevel, BadRange, NotReduced}
-use Rattle.reply.specs.Replies.{Reason, when, first}
+use Rattle.reply.specs.Replies.{Reason, when, first, Verdict}
 use Rattle.level.specs.Levels.{bad_grid}
 use Rattle.level.specs.declared.Grid.{Grid}
 use Rattle.coordijk.specs.declared.CoordIJK.{CoordIJK}
 use Rattle.coordijk.specs.Coordinates.{coord, not_reduced, Taken, sum_of, Q}
 use Rattle.faceijk.specs.declared.Place.{Place}
-use Rattle.faceijk.specs.declared.OnGrid.{OnGrid}
 
 abbrev pub place : ℕ → CoordIJK → Place
 place f c = record { face = f; i = c.i; j = c.j; k = c.k }
@@ -67,9 +65,9 @@ abbrev pub over_edge_verdict : Place → ℕ → Bool → Verdict
 over_edge_verdict p l bad_edge = first (over_edge_reasons p l bad_edge)
 
 -- what the tests of an entry on a grid leave
-abbrev pub on_grid_of : Verdict → Grid → OnGrid
-on_grid_of Fine g = OnGrid.Fine g
-on_grid_of (Refused r) g = OnGrid.Refused r
+abbrev pub on_grid_of : Verdict → Grid → Result Grid Refusal
+on_grid_of (Ok _) g = Ok g
+on_grid_of (Err r) g = Err r
 
 -- what the code's sums ask of a place
 pub record Ready (p : Place) : Type 0 where

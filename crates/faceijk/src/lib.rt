@@ -2,20 +2,21 @@
 #![tactic(auto)]
 
 ghost use Rattle.std.specs.Prelude.{◌≡◌, ◌<◌, ◌≤◌};
-ghost use Rattle.reply.specs.Replies.{verdict_number};
+ghost use Rattle.reply.specs.declared.Refusal.TheVariants.{BadRange};
 ghost use Rattle.level.specs.Levels.{Sound, grid_of};
 ghost use Rattle.coordijk.specs.Coordinates.{reduced};
 ghost use Rattle.faceijk.specs.Places.{place, coord_of, same_place, sum_at, QAt, Okay, Ready, place_verdict, edge_verdict, over_edge_verdict, on_grid_of};
-ghost use Rattle.faceijk.specs.Faces.{face_over, word_over, dir_to, direction_number};
+ghost use Rattle.faceijk.specs.Faces.{face_over, word_over, dir_to, direction_number, edge_number};
 ghost use Rattle.faceijk.specs.Steps.{polar, step_of};
 ghost use Rattle.faceijk.specs.Crossing.{edge_out, about_corner, start_out, step_out, landed, on_edge, crossing_of, settle_from};
-ghost use Rattle.faceijk.specs.Entries.{reduce_of, said_moved, turn_map, turn_reply, step_reply, overage_number, said_crossed, cross_reply, said_settled, settle_reply, said_directed, direction_reply};
+ghost use Rattle.faceijk.specs.Entries.{reduce_of, said_moved, turn_map, turn_reply, step_reply, overage_number, said_crossed, cross_reply, said_settled, settle_reply, said_directed, direction_reply, Numbered, Towards};
 
-use coordijk::{CoordIJK, GridMap, Mapped};
-use level::{Grid, GridLevel, Gridded};
-use reply::{Refusal, Verdict};
+use coordijk::{CoordIJK, GridMap};
+use level::{Grid, GridLevel};
+use reply::Refusal;
+use std::fmt;
 
-#[derive(Clone, Copy)]
+#[derive(Clone, Copy, Debug, PartialEq, Eq)]
 pub struct Place {
     pub face: u32,
     pub i: u32,
@@ -23,67 +24,44 @@ pub struct Place {
     pub k: u32,
 }
 
-// How a crossing ended.
-#[derive(Clone, Copy)]
+// How a crossing ended, with the paper's number.
+#[derive(Clone, Copy, Debug, PartialEq, Eq)]
 pub enum Overage {
-    None,
-    FaceEdge,
-    NewFace,
+    None = 0,
+    FaceEdge = 1,
+    NewFace = 2,
 }
 
 // Where a crossing ended, and how.
-#[derive(Clone, Copy)]
+#[derive(Clone, Copy, Debug, PartialEq, Eq)]
 pub struct Landed {
     pub place: Place,
     pub overage: Overage,
 }
 
 // Where settling ended, and after how many steps over an edge.
-#[derive(Clone, Copy)]
+#[derive(Clone, Copy, Debug, PartialEq, Eq)]
 pub struct Rested {
     pub place: Place,
     pub steps: u64,
 }
 
-#[derive(Clone, Copy)]
-pub enum Moved {
-    Done(Place),
-    Refused(Refusal),
+// An edge of a face, with the paper's number.
+#[derive(Clone, Copy, Debug, PartialEq, Eq)]
+pub enum Edge {
+    IJ = 1,
+    KI = 2,
+    JK = 3,
 }
 
-#[derive(Clone, Copy)]
-pub enum Crossed {
-    Done(Landed),
-    Refused(Refusal),
-}
-
-#[derive(Clone, Copy)]
-pub enum Settled {
-    Done(Rested),
-    Refused(Refusal),
-}
-
-// Where another face lies.
-#[derive(Clone, Copy)]
+// Where another face lies, with the paper's direction number.
+#[derive(Clone, Copy, Debug, PartialEq, Eq)]
 pub enum Direction {
-    Itself,
-    OverIJ,
-    OverKI,
-    OverJK,
-    Elsewhere,
-}
-
-#[derive(Clone, Copy)]
-pub enum Directed {
-    Done(Direction),
-    Refused(Refusal),
-}
-
-// What the tests of an entry on a grid leave: the grid, or the refusal.
-#[derive(Clone, Copy)]
-pub enum OnGrid {
-    Fine(Grid),
-    Refused(Refusal),
+    Itself = 0,
+    OverIJ = 1,
+    OverKI = 2,
+    OverJK = 3,
+    Elsewhere = 7,
 }
 
 fn placed(face: u32, c: CoordIJK) -> Place
@@ -102,9 +80,10 @@ fn turn_map(clockwise: bool) -> GridMap
     ensures { result ≡ turn_map clockwise }
 {
     if clockwise {
-        return GridMap::SixthTurnCw;
+        GridMap::SixthTurnCw
+    } else {
+        GridMap::SixthTurnCcw
     }
-    GridMap::SixthTurnCcw
 }
 
 fn reduced_at(face: u32, i: u32, j: u32, k: u32) -> Place
@@ -115,31 +94,23 @@ fn reduced_at(face: u32, i: u32, j: u32, k: u32) -> Place
 
 // The faces over an edge, five bits a face from the lowest on: those of faces 0..9, or those of 10..19. Words and not a table, since a
 // table of sixty would be laid out in memory anew at each reading.
-fn faces_over(edge: u32, low: bool) -> u64
-    ensures { result ≡ word_over edge low }
+fn faces_over(edge: Edge, low: bool) -> u64
+    ensures { result ≡ word_over (edge_number edge) low }
 {
-    if edge == 1 {
-        if low {
-            return 507299327181828;
-        }
-        return 549293577739461;
+    match (edge, low) {
+        (Edge::IJ, true) => 507299327181828,
+        (Edge::IJ, false) => 549293577739461,
+        (Edge::KI, true) => 470980141124673,
+        (Edge::KI, false) => 652576900292838,
+        (Edge::JK, true) => 144105826163909,
+        (Edge::JK, false) => 507299344500239,
     }
-    if edge == 2 {
-        if low {
-            return 470980141124673;
-        }
-        return 652576900292838;
-    }
-    if low {
-        return 144105826163909;
-    }
-    507299344500239
 }
 
 // The place in the word is the face's remainder by ten, without the multiplication that settling would wait for at each step.
-fn face_over(face: u32, edge: u32) -> u32
-    requires { (face < 20) × (1 ≤ edge) × (edge ≤ 3) }
-    ensures { result ≡ face_over face edge }
+fn face_over(face: u32, edge: Edge) -> u32
+    requires { face < 20 }
+    ensures { result ≡ face_over face (edge_number edge) }
 {
     let low = face < 10;
     let at = if low { face } else { face - 10 };
@@ -160,13 +131,13 @@ pub fn direction_to(from: u32, to: u32) -> Direction
     if from == to {
         return Direction::Itself;
     }
-    if face_over(from, 1) == to {
+    if face_over(from, Edge::IJ) == to {
         return Direction::OverIJ;
     }
-    if face_over(from, 2) == to {
+    if face_over(from, Edge::KI) == to {
         return Direction::OverKI;
     }
-    if face_over(from, 3) == to {
+    if face_over(from, Edge::JK) == to {
         return Direction::OverJK;
     }
     Direction::Elsewhere
@@ -174,52 +145,74 @@ pub fn direction_to(from: u32, to: u32) -> Direction
 
 // The edge that leads back from the face over an edge, without a search: among the faces about a pole IJ and KI lead back over each other,
 // any other edge over itself. Public for boundaries, as `Place::over`.
-pub fn back_edge(face: u32, edge: u32) -> u32
-    requires { (face < 20) × (1 ≤ edge) × (edge ≤ 3) }
-    ensures { result ≡ dir_to (face_over face edge) face }
+pub fn back_edge(face: u32, edge: Edge) -> Edge
+    requires { face < 20 }
+    ensures { edge_number result ≡ dir_to (face_over face (edge_number edge)) face }
 {
-    if (edge < 3) & is_polar(face) {
-        3 - edge
-    } else {
-        edge
+    match (edge, is_polar(face)) {
+        (Edge::IJ, true) => Edge::KI,
+        (Edge::KI, true) => Edge::IJ,
+        _ => edge,
     }
 }
 
 // The direction from one face to another.
-pub fn face_direction(from: u32, to: u32) -> Directed
+pub fn face_direction(from: u32, to: u32) -> Result<Direction, Refusal>
     ensures { said_directed result ≡ direction_reply from to }
 {
     if (Place::LAST_FACE < from) | (Place::LAST_FACE < to) {
-        return Directed::Refused(Refusal::BadFace);
+        return Err(Refusal::BadFace);
     }
-    Directed::Done(direction_to(from, to))
+    Ok(direction_to(from, to))
+}
+
+impl TryFrom<u32> for Edge {
+    type Error = Refusal;
+
+    ghost try_from_gives = { Numbered BadRange };
+
+    fn try_from(number: u32) -> Result<Self, Refusal> {
+        match number {
+            1 => Ok(Edge::IJ),
+            2 => Ok(Edge::KI),
+            3 => Ok(Edge::JK),
+            _ => Err(Refusal::BadRange),
+        }
+    }
 }
 
 impl Overage {
-    // 0, 1 or 2, in the order above.
     pub fn number(self) -> u32
         ensures { result ≡ overage_number self }
     {
-        match self {
-            Overage::None => 0,
-            Overage::FaceEdge => 1,
-            Overage::NewFace => 2,
-        }
+        self as u32
     }
 }
 
 impl Direction {
-    // The paper's direction number: 0, 1, 2, 3 or 7.
+    // The edge that lies in the direction; there is none to the face itself, nor to a face elsewhere.
+    pub fn edge(self) -> Option<Edge>
+        ensures { Towards (direction_number self) result }
+    {
+        match self {
+            Direction::OverIJ => Some(Edge::IJ),
+            Direction::OverKI => Some(Edge::KI),
+            Direction::OverJK => Some(Edge::JK),
+            Direction::Itself | Direction::Elsewhere => None,
+        }
+    }
+
     pub fn number(self) -> u32
         ensures { result ≡ direction_number self }
     {
-        match self {
-            Direction::Itself => 0,
-            Direction::OverIJ => 1,
-            Direction::OverKI => 2,
-            Direction::OverJK => 3,
-            Direction::Elsewhere => 7,
-        }
+        self as u32
+    }
+}
+
+// Face, i, j, k.
+impl fmt::Display for Place {
+    fn fmt<W: fmt::Write>(&self, f: &mut fmt::Formatter<W>) -> fmt::Result {
+        write!(f, "{} {} {} {}", self.face, self.i, self.j, self.k)
     }
 }
 
@@ -241,7 +234,7 @@ impl Place {
     pub fn is_same(self, other: Place) -> bool
         ensures { result ≡ same_place self other }
     {
-        (self.face == other.face) & (self.i == other.i) & (self.j == other.j) & (self.k == other.k)
+        self == other
     }
 
     // The least coordinate taken from all three; any place is taken, and its face stays.
@@ -252,108 +245,91 @@ impl Place {
     }
 
     // Whether the place is taken: a face 0..19, reduced, and no coordinate above 2^26.
-    pub fn verdict(self) -> Verdict
-        ensures { verdict_number result ≡ verdict_number (place_verdict self) }
+    pub fn verdict(self) -> Result<(), Refusal>
+        ensures { result ≡ place_verdict self }
     {
         if Place::LAST_FACE < self.face {
-            return Verdict::Refused(Refusal::BadFace);
+            return Err(Refusal::BadFace);
         }
         self.coord().verdict()
     }
 
     // The tests that follow those of face and level.
-    fn over_edge(self, grid: Grid, bad_edge: bool) -> OnGrid
+    fn over_edge(self, grid: Grid, bad_edge: bool) -> Result<Grid, Refusal>
         ensures { result ≡ on_grid_of (edge_verdict self bad_edge) grid }
     {
         if bad_edge {
-            return OnGrid::Refused(Refusal::BadRange);
+            return Err(Refusal::BadRange);
         }
-        let verdict = self.coord().verdict();
-        match verdict {
-            Verdict::Fine => OnGrid::Fine(grid),
-            Verdict::Refused(refusal) => OnGrid::Refused(refusal),
-        }
+        self.coord().verdict()?;
+        Ok(grid)
     }
 
     // The tests of an entry on a grid, in the order of their numbers.
-    fn on_grid(self, level: GridLevel, substrate: bool, bad_edge: bool) -> OnGrid
+    fn on_grid(self, level: GridLevel, substrate: bool, bad_edge: bool) -> Result<Grid, Refusal>
         ensures { result ≡ on_grid_of (over_edge_verdict self level.0 bad_edge) (grid_of level.0 substrate) }
     {
         if Place::LAST_FACE < self.face {
-            return OnGrid::Refused(Refusal::BadFace);
+            return Err(Refusal::BadFace);
         }
-        let gridded = level.grid(substrate);
-        match gridded {
-            Gridded::Done(grid) => self.over_edge(grid, bad_edge),
-            Gridded::Refused(refusal) => OnGrid::Refused(refusal),
-        }
+        let grid = level.grid(substrate)?;
+        self.over_edge(grid, bad_edge)
     }
 
     // A sixth turn about the face's centre.
-    pub fn turn(self, clockwise: bool) -> Moved
+    pub fn turn(self, clockwise: bool) -> Result<Place, Refusal>
         ensures { said_moved result ≡ turn_reply self clockwise }
     {
         if Place::LAST_FACE < self.face {
-            return Moved::Refused(Refusal::BadFace);
+            return Err(Refusal::BadFace);
         }
-        let mapped = self.coord().map(turn_map(clockwise));
-        match mapped {
-            Mapped::Done(c) => Moved::Done(placed(self.face, c)),
-            Mapped::Refused(refusal) => Moved::Refused(refusal),
-        }
+        let c = self.coord().map(turn_map(clockwise))?;
+        Ok(placed(self.face, c))
     }
 
     // The step over an edge: the table's turns and translations, as sums. Public for boundaries and names, which have tested place and grid.
-    pub fn over(self, edge: u32, grid: Grid) -> Place
-        requires { Ready self × (self.face < 20) × (1 ≤ edge) × (edge ≤ 3) × Sound grid }
-        ensures { result ≡ step_of self edge grid.unit }
+    pub fn over(self, edge: Edge, grid: Grid) -> Place
+        requires { Ready self × (self.face < 20) × Sound grid }
+        ensures { result ≡ step_of self (edge_number edge) grid.unit }
     {
         let face = face_over(self.face, edge);
         let m = grid.limit;
         let a = self.i + self.j;
         let b = self.j + self.k;
         let c = self.k + self.i;
-        if edge == 3 {
-            return reduced_at(face, b, c + m, a + m);
+        match (edge, is_polar(self.face)) {
+            (Edge::IJ, true) => reduced_at(face, c + m, a, b + m),
+            (Edge::IJ, false) => reduced_at(face, b + m, c + m, a),
+            (Edge::KI, true) => reduced_at(face, a + m, b + m, c),
+            (Edge::KI, false) => reduced_at(face, b + m, c, a + m),
+            (Edge::JK, _) => reduced_at(face, b, c + m, a + m),
         }
-        if is_polar(self.face) {
-            if edge == 1 {
-                return reduced_at(face, c + m, a, b + m);
-            }
-            return reduced_at(face, a + m, b + m, c);
-        }
-        if edge == 1 {
-            return reduced_at(face, b + m, c + m, a);
-        }
-        reduced_at(face, b + m, c, a + m)
     }
 
-    // The bare step over a named edge: 1 is IJ, 2 is KI, 3 is JK.
-    pub fn step(self, level: GridLevel, substrate: bool, edge: u32) -> Moved
+    // The bare step over an edge named by its number. A number that is none is told in its turn, after face and level.
+    pub fn step(self, level: GridLevel, substrate: bool, edge: u32) -> Result<Place, Refusal>
         ensures { said_moved result ≡ step_reply self level.0 substrate edge }
     {
-        let on = self.on_grid(level, substrate, (edge < 1) | (3 < edge));
-        match on {
-            OnGrid::Fine(grid) => Moved::Done(self.over(edge, grid)),
-            OnGrid::Refused(refusal) => Moved::Refused(refusal),
-        }
+        let named = Edge::try_from(edge);
+        let grid = self.on_grid(level, substrate, named.is_err())?;
+        Ok(self.over(named?, grid))
     }
 
     // s of the paper, which crossing compares with the limit.
     pub fn sum(self) -> u64
         ensures { result ≡ sum_at self }
     {
-        self.i as u64 + self.j as u64 + self.k as u64
+        u64::from(self.i) + u64::from(self.j) + u64::from(self.k)
     }
 
     // The edge that crossing steps over.
-    fn edge_out(self) -> u32
-        ensures { result ≡ edge_out self }
+    fn edge_out(self) -> Edge
+        ensures { edge_number result ≡ edge_out self }
     {
         if 0 < self.k {
-            if 0 < self.j { 3 } else { 2 }
+            if 0 < self.j { Edge::JK } else { Edge::KI }
         } else {
-            1
+            Edge::IJ
         }
     }
 
@@ -369,11 +345,11 @@ impl Place {
     }
 
     // Where the step starts: after the pentagon turn, if that is asked and the edge is KI.
-    fn start(self, turn: bool, edge: u32, grid: Grid) -> Place
+    fn start(self, turn: bool, edge: Edge, grid: Grid) -> Place
         requires { Okay self × Sound grid }
-        ensures { result ≡ start_out turn edge grid self }
+        ensures { result ≡ start_out turn (edge_number edge) grid self }
     {
-        if turn & (edge == 2) {
+        if turn & (edge == Edge::KI) {
             return self.about_corner(grid.limit);
         }
         self
@@ -392,7 +368,7 @@ impl Place {
     fn on_edge(self, grid: Grid) -> bool
         ensures { result ≡ on_edge grid self }
     {
-        grid.substrate & (self.sum() == grid.limit as u64)
+        grid.substrate & (self.sum() == u64::from(grid.limit))
     }
 
     // Crossing on a grid. Public for boundaries, as above.
@@ -403,7 +379,7 @@ impl Place {
         if self.on_edge(grid) {
             return landing(self, Overage::FaceEdge);
         }
-        if (grid.limit as u64) < self.sum() {
+        if u64::from(grid.limit) < self.sum() {
             let next = self.out(turn, grid);
             if next.on_edge(grid) {
                 return landing(next, Overage::FaceEdge);
@@ -414,14 +390,11 @@ impl Place {
     }
 
     // `adjust_overage_class2` of the source, with or without the pentagon turn.
-    pub fn cross(self, level: GridLevel, substrate: bool, turn: bool) -> Crossed
+    pub fn cross(self, level: GridLevel, substrate: bool, turn: bool) -> Result<Landed, Refusal>
         ensures { said_crossed result ≡ cross_reply self level.0 substrate turn }
     {
-        let on = self.on_grid(level, substrate, false);
-        match on {
-            OnGrid::Fine(grid) => Crossed::Done(self.crossed(turn, grid)),
-            OnGrid::Refused(refusal) => Crossed::Refused(refusal),
-        }
+        let grid = self.on_grid(level, substrate, false)?;
+        Ok(self.crossed(turn, grid))
     }
 
     // Crossing until the place lies within the limit. Q falls with each step. Public for boundaries, as above.
@@ -429,7 +402,7 @@ impl Place {
         requires { Okay self × Sound grid }
         ensures { result ≡ settle_from (QAt self) grid self 0 }
     {
-        let limit = grid.limit as u64;
+        let limit = u64::from(grid.limit);
         let mut place = self;
         let mut steps: u64 = 0;
         let mut sum = place.sum();
@@ -442,13 +415,10 @@ impl Place {
     }
 
     // `adjust_pentagon_vertex_overage` of the source, and the same on a plain grid.
-    pub fn settle(self, level: GridLevel, substrate: bool) -> Settled
+    pub fn settle(self, level: GridLevel, substrate: bool) -> Result<Rested, Refusal>
         ensures { said_settled result ≡ settle_reply self level.0 substrate }
     {
-        let on = self.on_grid(level, substrate, false);
-        match on {
-            OnGrid::Fine(grid) => Settled::Done(self.settled(grid)),
-            OnGrid::Refused(refusal) => Settled::Refused(refusal),
-        }
+        let grid = self.on_grid(level, substrate, false)?;
+        Ok(self.settled(grid))
     }
 }

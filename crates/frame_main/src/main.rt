@@ -4,13 +4,11 @@
 
 ghost use Rattle.std.specs.Prelude.{◌<◌};
 
-use faceijk::{Moved, Place};
+use faceijk::Place;
 use level::{CellLevel, GridLevel};
-use locate::Located;
-use vec2d::{Pointed, Rounded};
-use vec3d::{NearestFace, Vec3d};
-
-const STDOUT_FILENO: i32 = 1;
+use reply::Refusal;
+use std::{fmt, io};
+use vec3d::Vec3d;
 
 const LEVEL: u32 = 4;
 
@@ -78,119 +76,68 @@ const OVER: [[f64; 3]; 60] = [
     [0.20150068793969, 0.65652197616593, -0.72689501825987],
 ];
 
-fn say(text: &[u8]) {
-    io::write_all(STDOUT_FILENO, text);
-}
-
-// A word and a number.
-fn show(word: &[u8], n: u32) {
-    say(word);
-    io::print_decimal(STDOUT_FILENO, n as u64);
-}
-
-fn show_place(p: Place) {
-    show(b" ", p.face);
-    show(b" ", p.i);
-    show(b" ", p.j);
-    show(b" ", p.k);
-}
-
-fn show_nearest(nearest: NearestFace) {
-    match nearest {
-        NearestFace::Done(n) => show(b" ", n.face),
-        NearestFace::Refused(refusal) => show(b" refused ", refusal.number()),
-    }
-}
-
-fn show_located(located: Located) {
-    match located {
-        Located::Done(found) => {
-            let p = found.place;
-            show_place(p)
-        }
-        Located::Refused(refusal) => show(b" refused ", refusal.number()),
-    }
-}
-
-fn show_moved(moved: Moved) {
-    match moved {
-        Moved::Done(p) => show_place(p),
-        Moved::Refused(refusal) => show(b" refused ", refusal.number()),
+// What an entry answers, or its refusal's number.
+fn show<T: fmt::Display + Drop>(rt: &impl Print, answer: Result<T, Refusal>) -> io::Result<()> {
+    match answer {
+        Ok(value) => print!(rt; " {value}"),
+        Err(refusal) => print!(rt; " refused {}", refusal.number()),
     }
 }
 
 // The place on the named face, beyond its edge, stepped over the edge.
-fn stepped(face: u32, edge: u32, rounded: Rounded) -> Moved {
-    match rounded {
-        Rounded::Done(found) => {
-            let c = found.hexagon;
-            Place::new(face, c.i, c.j, c.k).step(GridLevel(LEVEL), false, edge)
-        }
-        Rounded::Refused(refusal) => Moved::Refused(refusal),
-    }
+fn step_over(frame: &[f64], face: u32, edge: u32, p: Vec3d) -> Result<Place, Refusal> {
+    let point = face_projection::plane_point(frame, face, CellLevel(LEVEL), p)?;
+    let c = point.to_ijk()?.hexagon;
+    Place::new(face, c.i, c.j, c.k).step(GridLevel(LEVEL), false, edge)
 }
 
-fn step_over(frame: &[f64], face: u32, edge: u32, p: Vec3d) -> Moved {
-    let point = face_projection::plane_point(frame, face, CellLevel(LEVEL), p);
-    match point {
-        Pointed::Done(q) => stepped(face, edge, q.to_ijk()),
-        Pointed::Refused(refusal) => Moved::Refused(refusal),
-    }
+fn show_edge(rt: &impl Print, frame: &[f64], face: u32, edge: u32, p: Vec3d) -> io::Result<()> {
+    print!(rt; "face {face} edge {edge} nearest")?;
+    show(rt, vec3d::nearest_face(frame, p).map(|n| n.face))?;
+    print!(rt; " located")?;
+    show(
+        rt,
+        locate::locate(frame, CellLevel(LEVEL), p).map(|spot| spot.place),
+    )?;
+    print!(rt; " stepped")?;
+    show(rt, step_over(frame, face, edge, p))?;
+    println!(rt)
 }
 
-fn show_edge(frame: &[f64], face: u32, edge: u32, p: Vec3d) {
-    show(b"face ", face);
-    show(b" edge ", edge);
-    say(b" nearest");
-    show_nearest(vec3d::nearest_face(frame, p));
-    say(b" located");
-    show_located(locate::locate(frame, CellLevel(LEVEL), p));
-    say(b" stepped");
-    show_moved(step_over(frame, face, edge, p));
-    say(b"\n");
-}
-
-fn show_centre(frame: &[f64; 180], face: u32)
+fn show_centre(rt: &impl Print, frame: &[f64; 180], face: u32) -> io::Result<()>
     requires { face < 20 }
 {
-    let at = 9 * (face as usize);
-    show(b"centre ", face);
-    say(b" nearest");
-    show_nearest(vec3d::nearest_face(frame, Vec3d::new(frame[at], frame[at + 1], frame[at + 2])));
-    say(b"\n");
+    print!(rt; "centre {face} nearest")?;
+    let centre = vec3d::face_at(frame, face).centre;
+    show(rt, vec3d::nearest_face(frame, centre).map(|n| n.face))?;
+    println!(rt)
 }
 
 fn over_edge(face: u32, edge: u32) -> Vec3d
     requires { (face < 20) × (edge < 3) }
 {
-    let at = 3 * (face as usize) + (edge as usize);
-    let over = OVER[at];
-    Vec3d::new(over[0], over[1], over[2])
+    let [x, y, z] = OVER[3 * (face as usize) + (edge as usize)];
+    Vec3d::new(x, y, z)
 }
 
-fn show_face(frame: &[f64; 180], face: u32)
+fn show_face(rt: &impl Print, frame: &[f64; 180], face: u32) -> io::Result<()>
     requires { face < 20 }
 {
-    show_centre(frame, face);
-    show_edge(frame, face, 1, over_edge(face, 0));
-    show_edge(frame, face, 2, over_edge(face, 1));
-    show_edge(frame, face, 3, over_edge(face, 2));
-}
-
-fn show_faces(frame: &[f64; 180]) {
-    let mut face = 0u32;
-    while face < 20 {
-        show_face(frame, face);
-        face += 1;
+    show_centre(rt, frame, face)?;
+    for edge in 0..3 {
+        show_edge(rt, frame, face, edge + 1, over_edge(face, edge))?;
     }
+    Ok(())
 }
 
-fn main() {
+fn main(rt: HostRuntime) -> io::Result<()> {
     let frame = frame::default_frame();
     if vec3d::bad_frame(&frame) {
-        say(b"frame refused\n");
-        return;
+        return println!(rt; "frame refused");
     }
-    say(b"frame passes\n");
-    show_faces(&frame);
+    println!(rt; "frame passes")?;
+    for face in 0..20 {
+        show_face(&rt, &frame, face)?;
+    }
+    Ok(())
 }

@@ -8,9 +8,9 @@ use native.Mathlib.Omega.{arith}
 use lib.ListN.{length}
 use lib.Ieee.{Float, nan}
 use borrow.Author.Tests.{eq-eqb, ne_eqb, lt-ltb, le-ltb}
+use Rattle.reply.specs.Replies.{Verdict, fine}
+use Rattle.std.specs.Prelude.{Ok, Err, Result, Option, Some, None}
 use Rattle.reply.specs.declared.Refusal.{Refusal}
-use Rattle.reply.specs.declared.Verdict.{Verdict}
-use Rattle.reply.specs.declared.Verdict.TheVariants.{Fine}
 use Rattle.faceijk.specs.declared.Landed.{Landed}
 use Rattle.faceijk.specs.Places.{coord_of}
 use Rattle.vec2d.specs.declared.Vec2d.{Vec2d}
@@ -20,15 +20,12 @@ use Rattle.vec3d.specs.Frame.{face_at}
 use Rattle.root.specs.Root.{root_of}
 use Rattle.boundary.specs.declared.Shape.{Shape}
 use Rattle.boundary.specs.declared.BoundaryPoint.{BoundaryPoint}
-use Rattle.boundary.specs.declared.Before.{Before}
-use Rattle.boundary.specs.declared.Before.TheVariants.{Nothing, Point}
 use Rattle.boundary.specs.Landing.{corner_place, vertex_of, land_at}
 use Rattle.boundary.specs.CrossingPoints.{a_corner, corner_point}
 use Rattle.boundary.specs.Boundaries.{points_before, points_to, or_else, turns_for, room_with}
 use Rattle.boundary.specs.AsWalked.{Deep}
 use Rattle.boundary.proofs.Counting.{next_in, next_past}
 use Rattle.boundary.proofs.Inside.{stays_at, none_before}
-use Rattle.globe.specs.declared.Length.{Length}
 use Rattle.globe.specs.declared.SpherePoint.{SpherePoint}
 use Rattle.globe.specs.Points.{reached_of, square_of, divided_by}
 use Rattle.globe.specs.Boundaries.{with_vector, image_of, needed_verdict, corner_in, needed_to, first_refused, no_sphere_point}
@@ -76,35 +73,35 @@ module _ (f : List Float) (s : Shape) where
     points_are zero h = refl
     points_are (suc n) h =
         sym (next_in s n (omega arith)) ∙
-        (λ k. (ap (λ (b : Before). points_to s n ++ points_before b) (none_before s d n) ∙ (append-nil (points_to s n) ∙ points_are n (omega arith))) k ++ (corner_is n k ∷ []))
+        (λ k. (ap (λ (b : Result (Option BoundaryPoint) Refusal). points_to s n ++ points_before b) (none_before s d n) ∙ (append-nil (points_to s n) ∙ points_are n (omega arith))) k ++ (corner_is n k ∷ []))
 
     points_past : points_to s (suc s.sides) ≡ points_to s s.sides
     points_past =
-        sym (next_past s s.sides (omega arith)) ∙ (ap (λ (b : Before). points_to s s.sides ++ points_before b) (none_before s d s.sides) ∙ append-nil (points_to s s.sides))
+        sym (next_past s s.sides (omega arith)) ∙ (ap (λ (b : Result (Option BoundaryPoint) Refusal). points_to s s.sides ++ points_before b) (none_before s d s.sides) ∙ append-nil (points_to s s.sides))
 
     -- ---- what is refused
 
     -- what a turn needs, where nothing stands before its corner
-    turn_next : (n : ℕ) (b : Before) → corner_in s n (land_at s n).place ≡ b → first_refused f (scale_at s) (needed_to s (suc n)) ≡ or_else (first_refused f (scale_at s) (needed_to s n)) (needed_verdict f (scale_at s) b)
+    turn_next : (n : ℕ) (b : Result (Option BoundaryPoint) Refusal) → corner_in s n (land_at s n).place ≡ b → first_refused f (scale_at s) (needed_to s (suc n)) ≡ or_else (first_refused f (scale_at s) (needed_to s n)) (needed_verdict f (scale_at s) b)
     unfolding needed_to
     turn_next n b e =
         refused_append f (scale_at s) (needed_to s n) _ ∙
         (λ k. or_else (first_refused f (scale_at s) (needed_to s n)) (or_else (needed_verdict f (scale_at s) (none_before s d n k)) (or_fine (needed_verdict f (scale_at s) (e k)) k)))
 
     -- past n corners that are fine, what is said of the next one is said of all
-    pub refused_next : (n : ℕ) → n < s.sides → first_refused f (scale_at s) (needed_to s n) ≡ Fine → first_refused f (scale_at s) (needed_to s (suc n)) ≡ verdict_by (length_of (square_at n))
+    pub refused_next : (n : ℕ) → n < s.sides → first_refused f (scale_at s) (needed_to s n) ≡ fine → first_refused f (scale_at s) (needed_to s (suc n)) ≡ verdict_by (length_of (square_at n))
     refused_next n h e =
-        let there : corner_in s n (land_at s n).place ≡ Point (corner_point (land_at s n).place) = simp (lt-ltb n s.sides h) in
-        let is = there ∙ ap Point (corner_is n) in
-        turn_next n (Point (corner n)) is ∙ (ap (λ (v : Verdict). or_else v (needed_verdict f (scale_at s) (Point (corner n)))) e ∙ sym (verdict_by_lem axes (scale_at s) (plane_at n)))
+        let there : corner_in s n (land_at s n).place ≡ Ok (Some (corner_point (land_at s n).place)) = simp (lt-ltb n s.sides h) in
+        let is : corner_in s n (land_at s n).place ≡ Ok (Some (corner n)) = there ∙ (λ i. Ok (Some (corner_is n i))) in
+        turn_next n (Ok (Some (corner n))) is ∙ (ap (λ (v : Verdict). or_else v (needed_verdict f (scale_at s) (Ok (Some (corner n))))) e ∙ sym (verdict_by_lem axes (scale_at s) (plane_at n)))
 
-    pub fine_to : (n : ℕ) → n ≤ s.sides → ((i : ℕ) → i < n → verdict_by (length_of (square_at i)) ≡ Fine) → first_refused f (scale_at s) (needed_to s n) ≡ Fine
+    pub fine_to : (n : ℕ) → n ≤ s.sides → ((i : ℕ) → i < n → verdict_by (length_of (square_at i)) ≡ fine) → first_refused f (scale_at s) (needed_to s n) ≡ fine
     unfolding needed_to
     fine_to zero h e = refl
     fine_to (suc n) h e = refused_next n (omega arith) (fine_to n (omega arith) (λ i b. e i (omega arith))) ∙ e n (omega arith)
 
     refused_past : first_refused f (scale_at s) (needed_to s (suc s.sides)) ≡ first_refused f (scale_at s) (needed_to s s.sides)
-    refused_past = turn_next s.sides Nothing (simp (le-ltb s.sides s.sides (omega arith))) ∙ or_fine _
+    refused_past = turn_next s.sides (Ok None) (simp (le-ltb s.sides s.sides (omega arith))) ∙ or_fine _
 
     -- ---- the record
 
@@ -120,15 +117,15 @@ module _ (f : List Float) (s : Shape) where
               rw turns
         ]
 
-    pub stopped : (n l : ℕ) (r : Refusal) → l < n → n ≤ s.sides → first_refused f (scale_at s) (needed_to s l) ≡ Fine → length_of (square_at l) ≡ Length.Refused r → globe_of (Verdict.Refused r) [] ≡ turned_of f s (turns_for s.sides n)
+    pub stopped : (n l : ℕ) (r : Refusal) → l < n → n ≤ s.sides → first_refused f (scale_at s) (needed_to s l) ≡ fine → length_of (square_at l) ≡ Err r → Err r ≡ turned_of f s (turns_for s.sides n)
     stopped n l r h m e is =
         let v = stays f (scale_at s) s (suc l) r (refused_next l (omega arith) e ∙ ap verdict_by is) n (omega arith) in
         ap (λ (x : Verdict). globe_of x (map (image_of f (scale_at s)) (points_to s n))) (sym v) ∙ sym (full n m)
 
-    pub ended : (n : ℕ) (points : List SpherePoint) → n ≤ s.sides → first_refused f (scale_at s) (needed_to s n) ≡ Fine → points ≡ room_with no_sphere_point (table image_at n) → record { refusal = Fine; count = n; points = points } ≡ turned_of f s (turns_for s.sides n)
+    pub ended : (n : ℕ) (points : List SpherePoint) → n ≤ s.sides → first_refused f (scale_at s) (needed_to s n) ≡ fine → points ≡ room_with no_sphere_point (table image_at n) → Ok (record { count = n; points = points }) ≡ turned_of f s (turns_for s.sides n)
     ended n points h e laid =
         let images : map (image_of f (scale_at s)) (points_to s n) ≡ table image_at n =
         ap (map (image_of f (scale_at s))) (points_are n h) ∙ (table_map (image_of f (scale_at s)) corner n ∙ (λ k. table (λ i. image_at_lem i k) n)) in
         let many : n ≡ length (map (image_of f (scale_at s)) (points_to s n)) = sym (ap length images ∙ length_table image_at n) in
-        (λ k. record { refusal = Fine; count = many k; points = (laid ∙ ap (room_with no_sphere_point) (sym images)) k }) ∙
+        (λ k. Ok (record { count = many k; points = (laid ∙ ap (room_with no_sphere_point) (sym images)) k })) ∙
         (ap (λ (v : Verdict). globe_of v (map (image_of f (scale_at s)) (points_to s n))) (sym e) ∙ sym (full n h))

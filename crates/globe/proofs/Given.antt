@@ -2,15 +2,15 @@
 use mathlib.Core.Path.{◌≡◌, refl, sym, ap, ◌∙◌, subst}
 use mathlib.Core.List.{List, [], ◌∷◌, map}
 use Prim.Native.Nat.{ℕ, ◌-◌, ◌<◌}
-use native.Mathlib.Omega.{arith}
 use lib.ListN.{length, get_or, replicate, get_or-append}
 use lib.Ieee.{Float, binary64}
 use lib.Ieee.Bits.{of_bits-fits}
 use lib.Ieee.Fits.{div-fits}
-use Rattle.reply.specs.declared.Verdict.{Verdict}
-use Rattle.reply.specs.declared.Verdict.TheVariants.{Fine}
+use Rattle.reply.specs.declared.Refusal.{Refusal}
+use Rattle.reply.specs.Replies.{Verdict, fine}
+use Rattle.std.specs.Prelude.{Ok, Err, Result}
 use Rattle.reply.specs.Order.{Each}
-use Rattle.reply.proofs.Entries.{answered}
+use Rattle.reply.proofs.Entries.{told, WhereGiven}
 use Rattle.level.specs.Levels.{raised_of}
 use Rattle.faceijk.specs.declared.Place.{Place}
 use Rattle.vec2d.specs.declared.Vec2d.{Vec2d}
@@ -19,8 +19,6 @@ use Rattle.vec3d.specs.Vectors.{vector_verdict}
 use Rattle.vec3d.specs.Frame.{face_at}
 use Rattle.boundary.specs.declared.BoundaryPoint.{BoundaryPoint}
 use Rattle.boundary.specs.Boundaries.{boundary_points, room_with}
-use Rattle.globe.specs.declared.Lifted.{Lifted}
-use Rattle.globe.specs.declared.Lifted.TheVariants.{Done}
 use Rattle.globe.specs.declared.SpherePoint.{SpherePoint}
 use Rattle.globe.specs.declared.SphereBoundary.{SphereBoundary}
 use Rattle.globe.specs.Points.{scale_of, divided_by, sphere_of, sphere_verdict, vector_values, said_lifted, sphere_reply}
@@ -38,15 +36,15 @@ divided_held l v = record { x = div-fits binary64 _ _; y = div-fits binary64 _ _
 
 -- ---- one point
 
-module _ (s : List Float) (f l : ℕ) (p : Vec2d) {x : Lifted} {v : Vec3d} (is : x ≡ Done v) (held : Held v) (said : said_lifted x ≡ sphere_reply s f l p) where
+module _ (s : List Float) (f l : ℕ) (p : Vec2d) {x : Result Vec3d Refusal} {v : Vec3d} (is : x ≡ Ok v) (held : Held v) (said : said_lifted x ≡ sphere_reply s f l p) where
   -- A vector that the entry of one point gives out is the paper's, and nothing was refused.
-  pub sphere_told : (sphere_verdict s f l p ≡ Fine) × (v ≡ sphere_of (face_at s f) (scale_of l) p)
+  pub sphere_told : (sphere_verdict s f l p ≡ fine) × (v ≡ sphere_of (face_at s f) (scale_of l) p)
   sphere_told =
-      let t = answered 3 (sphere_verdict s f l p) (vector_values v) _ (ap said_lifted (sym is) ∙ said) in
+      let t = told 3 vector_values (sphere_verdict s f l p) _ is said in
       (t.0, same_vector v (sphere_of (face_at s f) (scale_of l) p) held (divided_held _ _) t.1)
 
   -- So it is on the sphere.
-  pub sphere_given : vector_verdict v ≡ Fine
+  pub sphere_given : vector_verdict v ≡ fine
   sphere_given = ap vector_verdict sphere_told.1 ∙ answered_fine s f l p sphere_told.0
 
 -- ---- a boundary
@@ -59,30 +57,34 @@ unfolding image_of
 images_held s scale [] = tt
 images_held s scale (p ∷ ps) = (divided_held _ _, images_held s scale ps)
 
-record_held : (v : Verdict) (ps : List SpherePoint) → AllHeld ps → AllHeld (globe_of v ps).points
+answer_held : (v : Verdict) (ps : List SpherePoint) → AllHeld ps → WhereGiven (λ (x : SphereBoundary). AllHeld x.points) (globe_of v ps)
 unfolding room_with
-record_held Fine ps h = each_append (λ (q : SpherePoint). Held (vector_at q)) ps _ h (unused_held (12 - length ps))
-record_held (Verdict.Refused r) ps h = unused_held 12
+answer_held (Ok _) ps h = each_append (λ (q : SpherePoint). Held (vector_at q)) ps _ h (unused_held (12 - length ps))
+answer_held (Err r) ps h = tt
+
+-- each point below the count is on the sphere
+abbrev pub OnSphere : SphereBoundary → Type 0
+OnSphere b = (k : ℕ) → k < b.count → vector_verdict (vector_at (get_or b.points k no_sphere_point)) ≡ fine
 
 -- the points below the count are those of the list
-below_count : (v : Verdict) (ps : List SpherePoint) → (v ≡ Fine → Each (λ (q : SpherePoint). vector_verdict (vector_at q) ≡ Fine) ps) → (k : ℕ) → k < (globe_of v ps).count → vector_verdict (vector_at (get_or (globe_of v ps).points k no_sphere_point)) ≡ Fine
+below_count : (v : Verdict) (ps : List SpherePoint) → (v ≡ fine → Each (λ (q : SpherePoint). vector_verdict (vector_at q) ≡ fine) ps) → WhereGiven OnSphere (globe_of v ps)
 unfolding room_with
-below_count Fine ps h k b =
-    ap (λ (q : SpherePoint). vector_verdict (vector_at q)) (get_or-append ps _ no_sphere_point k b) ∙
-    each_at (λ (q : SpherePoint). vector_verdict (vector_at q) ≡ Fine) ps k no_sphere_point (h refl) b
-below_count (Verdict.Refused r) ps h k b = absurd (omega arith)
+below_count (Ok _) ps h =
+    λ k b. ap (λ (q : SpherePoint). vector_verdict (vector_at q)) (get_or-append ps _ no_sphere_point k b) ∙
+    each_at (λ (q : SpherePoint). vector_verdict (vector_at q) ≡ fine) ps k no_sphere_point (h refl) b
+below_count (Err r) ps h = tt
 
-module _ (sides : ℕ) (s : List Float) (p : Place) (l start n : ℕ) (x : SphereBoundary) (held : AllHeld x.points) (said : said_globe x ≡ globe_reply sides s p l start n) where
-  -- A record that the entry of a boundary gives out is the paper's.
+module _ (sides : ℕ) (s : List Float) (p : Place) (l start n : ℕ) (x : Result SphereBoundary Refusal) (held : WhereGiven (λ (b : SphereBoundary). AllHeld b.points) x) (said : said_globe x ≡ globe_reply sides s p l start n) where
+  -- An answer that the entry of a boundary gives out is the paper's.
   pub globe_told : x ≡ globe_of (globe_verdict sides s p l start n) (globe_points sides s p l start n)
   unfolding globe_points
   globe_told =
       one_globe x (globe_of (globe_verdict sides s p l start n) (globe_points sides s p l start n)) held
-      (record_held (globe_verdict sides s p l start n) (globe_points sides s p l start n) (images_held s (scale_of (raised_of l)) (boundary_points sides p l start n)))
+      (answer_held (globe_verdict sides s p l start n) (globe_points sides s p l start n) (images_held s (scale_of (raised_of l)) (boundary_points sides p l start n)))
       (said ∙ sym (asked_said sides s p l start n))
 
   -- So each of its points below the count is on the sphere.
-  pub globe_given : (k : ℕ) → k < x.count → vector_verdict (vector_at (get_or x.points k no_sphere_point)) ≡ Fine
-  globe_given k =
-      subst (λ (y : SphereBoundary). k < y.count → vector_verdict (vector_at (get_or y.points k no_sphere_point)) ≡ Fine) (sym globe_told)
-      (below_count (globe_verdict sides s p l start n) (globe_points sides s p l start n) (globe_fine sides s p l start n) k)
+  pub globe_given : WhereGiven OnSphere x
+  globe_given =
+      subst (λ (y : Result SphereBoundary Refusal). WhereGiven OnSphere y) (sym globe_told)
+      (below_count (globe_verdict sides s p l start n) (globe_points sides s p l start n) (globe_fine sides s p l start n))

@@ -2,6 +2,8 @@
 use mathlib.Core.Bool.{Bool, true, false, ◌||◌}
 use Prim.Native.Nat.{ℕ, zero, suc, ◌<◌}
 use lib.Dec.{eqb, ltb}
+use Rattle.reply.specs.declared.Refusal.{Refusal}
+use Rattle.std.specs.Prelude.{Ok, Err, Result, Option, Some, None}
 use Rattle.reply.specs.Choice.{pick}
 use Rattle.reply.specs.declared.Refusal.TheVariants.{NoCrossing}
 use Rattle.faceijk.specs.declared.Place.{Place}
@@ -12,7 +14,6 @@ use Rattle.faceijk.specs.Entries.{bad_edge}
 use Rattle.faceijk.proofs.Faces.{mate_over}
 use Rattle.faceijk.proofs.Taking.{edge_low}
 use Rattle.vec2d.specs.declared.Vec2d.{Vec2d}
-use Rattle.vec2d.specs.declared.Pointed.{Pointed}
 use Rattle.vec2d.specs.declared.Crossing.{Crossing as Meeting}
 use Rattle.vec2d.specs.Points.{point}
 use Rattle.vec2d.specs.Meeting.{no_crossing, met_of}
@@ -20,8 +21,6 @@ use Rattle.vec2d.specs.Closeness.{close}
 use Rattle.boundary.specs.declared.Cell.{Cell}
 use Rattle.boundary.specs.declared.Shape.{Shape}
 use Rattle.boundary.specs.declared.BoundaryPoint.{BoundaryPoint}
-use Rattle.boundary.specs.declared.Before.{Before}
-use Rattle.boundary.specs.declared.Before.TheVariants.{Nothing, Point, Refused}
 use Rattle.boundary.specs.Landing.{land_at}
 use Rattle.boundary.specs.CrossingPoints.{pointed, cross_at, unless_corner, is_face_edge, hexagon_crossing, taken_over, pentagon_crossing, crossing_between, before_at}
 use Rattle.boundary.specs.AsWalked.{Fit}
@@ -34,7 +33,7 @@ on_pointed : (f : ℕ) (m : Meeting) → f < 20 → OnFace (pointed f (met_of m)
 unfolding met_of
 on_pointed f m h = go (no_crossing m)
   where
-    go : (b : Bool) → OnFace (pointed f (pick b (Pointed.Refused NoCrossing) (Pointed.Done m.at)))
+    go : (b : Bool) → OnFace (pointed f (pick b (Err NoCrossing) (Ok m.at)))
     go true = unmet
     go false = there h
 
@@ -42,10 +41,10 @@ on_cross : (m f : ℕ) (a b : Vec2d) (d : ℕ) → f < 20 → OnFace (cross_at m
 unfolding cross_at
 on_cross m f a b d h = either OnFace (bad_edge d) unmet (on_pointed f _ h)
 
-on_unless : (a b : Vec2d) (x : Before) → OnFace x → OnFace (unless_corner a b x)
-on_unless a b Nothing h = none
-on_unless a b (Point p) h = either OnFace (close a (point p.x p.y) || close b (point p.x p.y)) none h
-on_unless a b (Refused r) h = unmet
+on_unless : (a b : Vec2d) (x : Result (Option BoundaryPoint) Refusal) → OnFace x → OnFace (unless_corner a b x)
+on_unless a b (Ok None) h = none
+on_unless a b (Ok (Some p)) h = either OnFace (close a (point p.x p.y) || close b (point p.x p.y)) none h
+on_unless a b (Err r) h = unmet
 
 on_hexagon : (c : Cell) (last : Landed) (now v : ℕ) → c.centre.face < 20 → OnFace (hexagon_crossing c last now v)
 unfolding hexagon_crossing
@@ -70,5 +69,5 @@ module _ (s : Shape) (fit : Fit s) where
   corner_on k = either OnFace (ltb k s.sides) (there (land_okay s k fit).on) none
 
 -- the face of a point that is there
-pub on_face : {p : BoundaryPoint} → OnFace (Point p) → p.face < 20
+pub on_face : {p : BoundaryPoint} → OnFace (Ok (Some p)) → p.face < 20
 on_face (there h) = h

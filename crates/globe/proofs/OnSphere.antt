@@ -6,9 +6,10 @@ use Prim.Native.Nat.{ℕ}
 use lib.Ieee.{Float, binary64}
 use lib.Ieee.Fits.{add-fits}
 use borrow.Author.Tests.{not-false}
-use Rattle.reply.specs.declared.Verdict.TheVariants.{Fine}
+use Rattle.reply.specs.declared.Refusal.{Refusal}
+use Rattle.std.specs.Prelude.{Ok, Err, Result, Option, Some, None}
 use Rattle.reply.specs.declared.Refusal.TheVariants.{BadFrame, BadFace, BadLevel, BadNumber, Behind}
-use Rattle.reply.specs.Replies.{first}
+use Rattle.reply.specs.Replies.{first, fine}
 use Rattle.reply.specs.Order.{Each}
 use Rattle.reply.proofs.Entries.{passed}
 use Rattle.level.specs.Levels.{bad_grid, raised_of}
@@ -21,8 +22,6 @@ use Rattle.vec3d.specs.Vectors.{vector_verdict}
 use Rattle.vec3d.specs.Frame.{face_at, bad_frame}
 use Rattle.vec3d.specs.Nearest.{nearest_reply}
 use Rattle.boundary.specs.declared.BoundaryPoint.{BoundaryPoint}
-use Rattle.boundary.specs.declared.Before.{Before}
-use Rattle.boundary.specs.declared.Before.TheVariants.{Nothing, Point, Refused}
 use Rattle.boundary.specs.Boundaries.{turns_for, asked_shape, boundary_points}
 use Rattle.boundary.proofs.Foremost.{both_fine}
 use Rattle.globe.specs.declared.SpherePoint.{SpherePoint}
@@ -41,15 +40,15 @@ module _ (a : FaceAxes) (scale : Float) (p : Vec2d) where
   reached_held = record { x = add-fits binary64 _ _; y = add-fits binary64 _ _; z = add-fits binary64 _ _ }
 
   -- A point that the rule of one point answers is on the sphere, whatever the axes and the scale.
-  pub sphere_fine : lift_verdict a scale p ≡ Fine → vector_verdict (sphere_of a scale p) ≡ Fine
+  pub sphere_fine : lift_verdict a scale p ≡ fine → vector_verdict (sphere_of a scale p) ≡ fine
   unfolding behind
   sphere_fine e =
       let bad = passed (bad_point a scale p) BadNumber _ e in
-      let near = passed (behind a scale p) Behind Fine bad.1 in
+      let near = passed (behind a scale p) Behind fine bad.1 in
       unit_fine (reached_of a scale p) reached_held (not-false _ (sym (one_test a scale p) ∙ bad.0)) near.0
 
 -- The same of a point that the entry answers.
-pub answered_fine : (s : List Float) (f l : ℕ) (p : Vec2d) → sphere_verdict s f l p ≡ Fine → vector_verdict (sphere_of (face_at s f) (scale_of l) p) ≡ Fine
+pub answered_fine : (s : List Float) (f l : ℕ) (p : Vec2d) → sphere_verdict s f l p ≡ fine → vector_verdict (sphere_of (face_at s f) (scale_of l) p) ≡ fine
 answered_fine s f l p e =
     let frame = passed (bad_frame s) BadFrame _ e in
     let face = passed (bad_face f) BadFace _ frame.1 in
@@ -60,48 +59,48 @@ answered_fine s f l p e =
 
 module _ (s : List Float) (scale : Float) where
   -- where no point that is needed is refused, each has an image
-  fine_each : (bs : List Before) → first_refused s scale bs ≡ Fine → Each (λ (p : BoundaryPoint). image_verdict s scale p ≡ Fine) (points_of bs)
+  fine_each : (bs : List (Result (Option BoundaryPoint) Refusal)) → first_refused s scale bs ≡ fine → Each (λ (p : BoundaryPoint). image_verdict s scale p ≡ fine) (points_of bs)
   fine_each [] e = tt
-  fine_each (Nothing ∷ bs) e = fine_each bs e
-  fine_each (Point p ∷ bs) e = let b = both_fine (image_verdict s scale p) (first_refused s scale bs) e in (b.0, fine_each bs b.1)
-  fine_each (Refused r ∷ bs) e = fine_each bs (both_fine (needed_verdict s scale (Refused r)) (first_refused s scale bs) e).1
+  fine_each (Ok None ∷ bs) e = fine_each bs e
+  fine_each (Ok (Some p) ∷ bs) e = let b = both_fine (image_verdict s scale p) (first_refused s scale bs) e in (b.0, fine_each bs b.1)
+  fine_each (Err r ∷ bs) e = fine_each bs (both_fine (needed_verdict s scale (Err r)) (first_refused s scale bs) e).1
 
 abbrev pub vector_at : SpherePoint → Vec3d
 vector_at p = vector p.x p.y p.z
 
-image_fine : (s : List Float) (scale : Float) (p : BoundaryPoint) → image_verdict s scale p ≡ Fine → vector_verdict (vector_at (image_of s scale p)) ≡ Fine
+image_fine : (s : List Float) (scale : Float) (p : BoundaryPoint) → image_verdict s scale p ≡ fine → vector_verdict (vector_at (image_of s scale p)) ≡ fine
 unfolding image_of
 image_fine s scale p e = sphere_fine _ scale _ e
 
-module _ (sides : ℕ) (s : List Float) (p : Place) (l start n : ℕ) (e : globe_verdict sides s p l start n ≡ Fine) where
+module _ (sides : ℕ) (s : List Float) (p : Place) (l start n : ℕ) (e : globe_verdict sides s p l start n ≡ fine) where
   -- In a boundary that is answered, every point of the plane boundary is one that the rule of one point answers.
-  pub images_fine : Each (λ (q : BoundaryPoint). image_verdict s (scale_of (raised_of l)) q ≡ Fine) (boundary_points sides p l start n)
+  pub images_fine : Each (λ (q : BoundaryPoint). image_verdict s (scale_of (raised_of l)) q ≡ fine) (boundary_points sides p l start n)
   unfolding globe_verdict boundary_points
   images_fine =
       let k = asked_shape sides p l start in
       let scale = scale_of (raised_of l) in
-      subst (Each (λ (q : BoundaryPoint). image_verdict s scale q ≡ Fine)) (points_are k (turns_for sides n))
+      subst (Each (λ (q : BoundaryPoint). image_verdict s scale q ≡ fine)) (points_are k (turns_for sides n))
       (fine_each s scale (needed_to k (turns_for sides n)) (both_fine (first (globe_reasons sides s p l start n)) _ e).1)
 
   -- So every point of a boundary that is answered is on the sphere.
-  pub globe_fine : Each (λ (q : SpherePoint). vector_verdict (vector_at q) ≡ Fine) (globe_points sides s p l start n)
+  pub globe_fine : Each (λ (q : SpherePoint). vector_verdict (vector_at q) ≡ fine) (globe_points sides s p l start n)
   unfolding globe_points
   globe_fine =
       let scale = scale_of (raised_of l) in
       let points = boundary_points sides p l start n in
-      each_map (λ (q : SpherePoint). vector_verdict (vector_at q) ≡ Fine) (image_of s scale) points (each_of _ (λ (q : BoundaryPoint). image_verdict s scale q ≡ Fine) (image_fine s scale) points images_fine)
+      each_map (λ (q : SpherePoint). vector_verdict (vector_at q) ≡ fine) (image_of s scale) points (each_of _ (λ (q : BoundaryPoint). image_verdict s scale q ≡ fine) (image_fine s scale) points images_fine)
 
 -- ---- asked again
 
 -- With a frame that passes, the nearest face of a vector on the sphere is answered.
-taken : (t : List Float) (v : Vec3d) → bad_frame t ≡ false → vector_verdict v ≡ Fine → (nearest_reply t v).number ≡ 0
+taken : (t : List Float) (v : Vec3d) → bad_frame t ≡ false → vector_verdict v ≡ fine → (nearest_reply t v).number ≡ 0
 taken t v f e = rw (f, e)
 
 -- So the nearest face never refuses a point that the entry of one point gives out, ..
-pub sphere_taken : (t s : List Float) (f l : ℕ) (p : Vec2d) → bad_frame t ≡ false → sphere_verdict s f l p ≡ Fine → (nearest_reply t (sphere_of (face_at s f) (scale_of l) p)).number ≡ 0
+pub sphere_taken : (t s : List Float) (f l : ℕ) (p : Vec2d) → bad_frame t ≡ false → sphere_verdict s f l p ≡ fine → (nearest_reply t (sphere_of (face_at s f) (scale_of l) p)).number ≡ 0
 sphere_taken t s f l p b e = taken t _ b (answered_fine s f l p e)
 
 -- .. nor any point of a boundary on the sphere.
-pub globe_taken : (t : List Float) (sides : ℕ) (s : List Float) (p : Place) (l start n : ℕ) → bad_frame t ≡ false → globe_verdict sides s p l start n ≡ Fine → Each (λ (q : SpherePoint). (nearest_reply t (vector_at q)).number ≡ 0) (globe_points sides s p l start n)
+pub globe_taken : (t : List Float) (sides : ℕ) (s : List Float) (p : Place) (l start n : ℕ) → bad_frame t ≡ false → globe_verdict sides s p l start n ≡ fine → Each (λ (q : SpherePoint). (nearest_reply t (vector_at q)).number ≡ 0) (globe_points sides s p l start n)
 globe_taken t sides s p l start n b e =
-    each_of _ (λ (q : SpherePoint). vector_verdict (vector_at q) ≡ Fine) (λ q h. taken t (vector_at q) b h) (globe_points sides s p l start n) (globe_fine sides s p l start n e)
+    each_of _ (λ (q : SpherePoint). vector_verdict (vector_at q) ≡ fine) (λ q h. taken t (vector_at q) b h) (globe_points sides s p l start n) (globe_fine sides s p l start n e)

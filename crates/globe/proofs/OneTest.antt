@@ -4,10 +4,11 @@ use mathlib.Core.Bool.{Bool, true, false, not, or-true}
 use Prim.Native.Nat.{ℕ}
 use native.Mathlib.Omega.{arith}
 use lib.Ieee.{Float, of_bits, eq, lt}
+use Rattle.reply.specs.declared.Refusal.{Refusal}
+use Rattle.reply.specs.Replies.{Verdict, fine}
+use Rattle.std.specs.Prelude.{Ok, Err, Result}
 use Rattle.reply.specs.Choice.{pick}
 use Rattle.reply.specs.declared.Refusal.TheVariants.{BadNumber, Behind}
-use Rattle.reply.specs.declared.Verdict.{Verdict}
-use Rattle.reply.specs.declared.Verdict.TheVariants.{Fine}
 use Rattle.double.specs.Double.{nought, quarter, finite}
 use Rattle.double.proofs.Finite.{add_finite, mul_finite, div_finite, div_nonzero}
 use Rattle.vec2d.specs.declared.Vec2d.{Vec2d}
@@ -19,8 +20,6 @@ use Rattle.vec3d.proofs.Comparing.{below_all}
 use Rattle.vec3d.proofs.OnePass.{parts_finite}
 use Rattle.root.specs.Root.{root_of}
 use Rattle.root.specs.AsWorked.{Positive}
-use Rattle.globe.specs.declared.Length.{Length}
-use Rattle.globe.specs.declared.Lifted.{Lifted}
 use Rattle.globe.specs.Points.{share_of, along_of, reached_of, divided_by, square_of, bad_point, behind, lift_verdict}
 use Rattle.globe.specs.AsWorked.{length_of, lifted_by, lifted_of}
 
@@ -41,9 +40,9 @@ pub positive : (q : Float) → finite q ≡ true → lt q quarter ≡ false → 
 positive q f h = record { number = f; above = below_all nought quarter q nought_finite quarter_finite f nought_below h }
 
 -- what is said of a point, by its length
-abbrev pub verdict_by : Length → Verdict
-verdict_by (Length.Done l) = Fine
-verdict_by (Length.Refused r) = Verdict.Refused r
+abbrev pub verdict_by : Result Float Refusal → Verdict
+verdict_by (Ok l) = fine
+verdict_by (Err r) = Err r
 
 module _ (a : FaceAxes) (scale : Float) (p : Vec2d) where
   -- a part that is a number comes from a number, divided by a u·u that is not zero
@@ -74,16 +73,16 @@ module _ (a : FaceAxes) (scale : Float) (p : Vec2d) where
   unfolding length_of behind
   verdict_by_lem = rw one_test (go (finite (square_of a scale p)) (lt (square_of a scale p) quarter))
     where
-      go : (f b : Bool) → verdict_by (pick f (pick b (Length.Refused Behind) (Length.Done (root_of (square_of a scale p)))) (Length.Refused BadNumber)) ≡ pick (not f) (Verdict.Refused BadNumber) (pick b (Verdict.Refused Behind) Fine)
+      go : (f b : Bool) → verdict_by (pick f (pick b (Err Behind) (Ok (root_of (square_of a scale p)))) (Err BadNumber)) ≡ pick (not f) (Err BadNumber) (pick b (Err Behind) fine)
       go true true = refl
       go true false = refl
       go false b = refl
 
-  abbrev pub by_length : Length → Lifted
-  by_length (Length.Done l) = Lifted.Done (divided_by l (reached_of a scale p))
-  by_length (Length.Refused r) = Lifted.Refused r
+  abbrev pub by_length : Result Float Refusal → Result Vec3d Refusal
+  by_length (Ok l) = Ok (divided_by l (reached_of a scale p))
+  by_length (Err r) = Err r
 
-  pub length_is : (v : Vec3d) (q : Float) (l : Length) → v ≡ reached_of a scale p → q ≡ dot_of v v → l ≡ length_of q → l ≡ length_of (square_of a scale p)
+  pub length_is : (v : Vec3d) (q : Float) (l : Result Float Refusal) → v ≡ reached_of a scale p → q ≡ dot_of v v → l ≡ length_of q → l ≡ length_of (square_of a scale p)
   length_is v q l e f g = g ∙ ap length_of (f ∙ (λ n. dot_of (e n) (e n)))
 
   -- the rule of one point, by the length
@@ -91,17 +90,17 @@ module _ (a : FaceAxes) (scale : Float) (p : Vec2d) where
   unfolding length_of behind
   lifted_by_lem = rw one_test (go (finite (square_of a scale p)) (lt (square_of a scale p) quarter))
     where
-      go : (f b : Bool) → by_length (pick f (pick b (Length.Refused Behind) (Length.Done (root_of (square_of a scale p)))) (Length.Refused BadNumber)) ≡ lifted_by (pick (not f) (Verdict.Refused BadNumber) (pick b (Verdict.Refused Behind) Fine)) (divided_by (root_of (square_of a scale p)) (reached_of a scale p))
+      go : (f b : Bool) → by_length (pick f (pick b (Err Behind) (Ok (root_of (square_of a scale p)))) (Err BadNumber)) ≡ lifted_by (pick (not f) (Err BadNumber) (pick b (Err Behind) fine)) (divided_by (root_of (square_of a scale p)) (reached_of a scale p))
       go true true = refl
       go true false = refl
       go false b = refl
 
 -- the length that is given is the root
-pub done_is : (q l : Float) → length_of q ≡ Length.Done l → l ≡ root_of q
+pub done_is : (q l : Float) → length_of q ≡ Ok l → l ≡ root_of q
 unfolding length_of
 done_is q l e = go (finite q) (lt q quarter) e
   where
-    go : (f b : Bool) → pick f (pick b (Length.Refused Behind) (Length.Done (root_of q))) (Length.Refused BadNumber) ≡ Length.Done l → l ≡ root_of q
+    go : (f b : Bool) → pick f (pick b (Err Behind) (Ok (root_of q))) (Err BadNumber) ≡ Ok l → l ≡ root_of q
     go true true h = let z : ◌≡◌ {A = ℕ} 0 1 = cc in absurd (omega arith)
     go true false h = cc
     go false b h = let z : ◌≡◌ {A = ℕ} 0 1 = cc in absurd (omega arith)

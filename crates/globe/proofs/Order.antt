@@ -7,11 +7,10 @@ use Prim.Native.Nat.{ℕ, zero, suc}
 use native.Mathlib.Omega.{arith}
 use lib.Dec.{ltb}
 use lib.Ieee.{Float}
+use Rattle.std.specs.Prelude.{Ok, Err, Result, Option, Some, None}
 use Rattle.reply.specs.declared.Refusal.{Refusal}
 use Rattle.reply.specs.declared.Refusal.TheVariants.{BadNumber, Behind}
-use Rattle.reply.specs.declared.Verdict.{Verdict}
-use Rattle.reply.specs.declared.Verdict.TheVariants.{Fine}
-use Rattle.reply.specs.Replies.{number_of, Reason, first, reply}
+use Rattle.reply.specs.Replies.{number_of, Reason, first, reply, Verdict, fine}
 use Rattle.reply.specs.Order.{Each, Foremost}
 use Rattle.reply.proofs.Foremost.{foremost}
 use Rattle.level.specs.Levels.{raised_of}
@@ -21,8 +20,6 @@ use Rattle.vec2d.specs.Points.{point}
 use Rattle.vec3d.specs.Frame.{face_at}
 use Rattle.boundary.specs.declared.Shape.{Shape}
 use Rattle.boundary.specs.declared.BoundaryPoint.{BoundaryPoint}
-use Rattle.boundary.specs.declared.Before.{Before}
-use Rattle.boundary.specs.declared.Before.TheVariants.{Nothing, Point, Refused}
 use Rattle.boundary.specs.Landing.{land_at}
 use Rattle.boundary.specs.CrossingPoints.{corner_point, before_at}
 use Rattle.boundary.specs.Boundaries.{or_else, turns_for, asked_shape}
@@ -45,20 +42,20 @@ globe_foremost sides s p l start n =
 module _ (P : Refusal → Type 0) where
   -- nothing is refused, or it is by a refusal that P allows
   abbrev Allows : Verdict → Type 0
-  Allows Fine = Unit {0}
-  Allows (Verdict.Refused r) = P r
+  Allows (Ok _) = Unit {0}
+  Allows (Err r) = P r
 
   first_allows : (rs : List Reason) → Each (λ (x : Reason). P x.refusal) rs → Allows (first rs)
   first_allows [] h = tt
   first_allows (x ∷ rs) h = either Allows x.applies h.0 (first_allows rs h.1)
 
   or_allows : (a b : Verdict) → Allows a → Allows b → Allows (or_else a b)
-  or_allows Fine b f g = g
-  or_allows (Verdict.Refused r) b f g = f
+  or_allows (Ok _) b f g = g
+  or_allows (Err r) b f g = f
 
 allows_more : (P Q : Refusal → Type 0) → ((r : Refusal) → P r → Q r) → (v : Verdict) → Allows P v → Allows Q v
-allows_more P Q f Fine h = tt
-allows_more P Q f (Verdict.Refused r) h = f r h
+allows_more P Q f (Ok _) h = tt
+allows_more P Q f (Err r) h = f r h
 
 -- the four refusals of a point: 6 and 8 of its projection, 12 and 13 of its own
 abbrev pub OfPoint : Refusal → Type 0
@@ -68,14 +65,14 @@ module _ (s : List Float) (scale : Float) where
   image_allows : (p : BoundaryPoint) → Allows OfPoint (image_verdict s scale p)
   image_allows p = first_allows OfPoint (lift_reasons (face_at s p.face) scale (point p.x p.y)) (inl (inl refl), (inl (inr refl), tt))
 
-  needed_allows : (b : Before) → Fair TwelveOrThirteen b → Allows OfPoint (needed_verdict s scale b)
-  needed_allows Nothing h = tt
-  needed_allows (Point p) h = image_allows p
-  needed_allows (Refused r) (refused h) = inr h
+  needed_allows : (b : Result (Option BoundaryPoint) Refusal) → Fair TwelveOrThirteen b → Allows OfPoint (needed_verdict s scale b)
+  needed_allows (Ok None) h = tt
+  needed_allows (Ok (Some p)) h = image_allows p
+  needed_allows (Err r) (refused h) = inr h
 
   corner_allows : (k : Shape) (n : ℕ) → Allows OfPoint (needed_verdict s scale (corner_in k n (land_at k n).place))
   corner_allows k n =
-      either (λ (b : Before). Allows OfPoint (needed_verdict s scale b)) (ltb n k.sides) (image_allows (corner_point (land_at k n).place)) tt
+      either (λ (b : Result (Option BoundaryPoint) Refusal). Allows OfPoint (needed_verdict s scale b)) (ltb n k.sides) (image_allows (corner_point (land_at k n).place)) tt
 
   points_allow : (k : Shape) (n : ℕ) → Allows OfPoint (first_refused s scale (needed_to k n))
   unfolding needed_to
@@ -84,15 +81,15 @@ module _ (s : List Float) (scale : Float) where
       subst (Allows OfPoint) (sym (refused_append s scale (needed_to k n) _))
       (or_allows OfPoint (first_refused s scale (needed_to k n)) _ (points_allow k n)
       (or_allows OfPoint (needed_verdict s scale (before_at k n)) _ (needed_allows (before_at k n) (fair k n))
-      (or_allows OfPoint (needed_verdict s scale (corner_in k n (land_at k n).place)) Fine (corner_allows k n) tt)))
+      (or_allows OfPoint (needed_verdict s scale (corner_in k n (land_at k n).place)) fine (corner_allows k n) tt)))
 
 module _ (sides : ℕ) (s : List Float) (p : Place) (l start n : ℕ) where
   -- A boundary that passes the tests can be refused by 6, 8, 12 and 13 only.
-  pub refused_by_point : (r : Refusal) → first (globe_reasons sides s p l start n) ≡ Fine → globe_verdict sides s p l start n ≡ Verdict.Refused r → OfPoint r
+  pub refused_by_point : (r : Refusal) → first (globe_reasons sides s p l start n) ≡ fine → globe_verdict sides s p l start n ≡ Err r → OfPoint r
   unfolding globe_verdict
   refused_by_point r f e =
       let points = first_refused s (scale_of (raised_of l)) (needed_to (asked_shape sides p l start) (turns_for sides n)) in
-      let is : points ≡ Verdict.Refused r = ap (λ (v : Verdict). or_else v points) (sym f) ∙ e in
+      let is : points ≡ Err r = ap (λ (v : Verdict). or_else v points) (sym f) ∙ e in
       subst (Allows OfPoint) is (points_allow s (scale_of (raised_of l)) (asked_shape sides p l start) (turns_for sides n))
 
 -- ---- never 9
@@ -101,8 +98,8 @@ abbrev NotNine : Refusal → Type 0
 NotNine r = number_of r ≡ 9 → ⊥
 
 not_nine : (m : ℕ) (v : Verdict) (vs : List ℕ) → Allows NotNine v → (reply m v vs).number ≡ 9 → ⊥
-not_nine m Fine vs h e = omega arith
-not_nine m (Verdict.Refused r) vs h e = h e
+not_nine m (Ok _) vs h e = omega arith
+not_nine m (Err r) vs h e = h e
 
 of_point : (r : Refusal) → OfPoint r → NotNine r
 of_point r (inl (inl q)) e = let z = ap number_of q in omega arith

@@ -9,11 +9,10 @@ use lib.Dec.{ltb}
 use lib.ListN.{length, drop, replicate, length-map}
 use lib.Ieee.{Float}
 use borrow.Author.Tests.{le-ltb}
+use Rattle.std.specs.Prelude.{Ok, Err, Result, Option, Some, None}
 use Rattle.reply.specs.declared.Refusal.{Refusal}
 use Rattle.reply.specs.declared.Refusal.TheVariants.{BadFrame}
-use Rattle.reply.specs.declared.Verdict.{Verdict}
-use Rattle.reply.specs.declared.Verdict.TheVariants.{Fine}
-use Rattle.reply.specs.Replies.{number_of, first, answer, refusal, reply}
+use Rattle.reply.specs.Replies.{number_of, first, answer, refusal, reply, Verdict, fine}
 use Rattle.reply.specs.Order.{Each}
 use Rattle.reply.proofs.Entries.{passed}
 use Rattle.level.specs.Levels.{bad_grid, raised_of}
@@ -22,8 +21,6 @@ use Rattle.vec2d.specs.Points.{point}
 use Rattle.vec3d.specs.Frame.{bad_frame}
 use Rattle.boundary.specs.declared.Shape.{Shape}
 use Rattle.boundary.specs.declared.BoundaryPoint.{BoundaryPoint}
-use Rattle.boundary.specs.declared.Before.{Before}
-use Rattle.boundary.specs.declared.Before.TheVariants.{Nothing, Point, Refused}
 use Rattle.boundary.specs.Landing.{cell_of}
 use Rattle.boundary.specs.CrossingPoints.{before_at}
 use Rattle.boundary.specs.Boundaries.{points_before, corners_in, points_in, points_to, crossings_to, or_else, verdict_before, verdict_to, turns_for, boundary_reasons, asked_shape, boundary_verdict, boundary_points, room_with}
@@ -45,12 +42,12 @@ use Rattle.globe.proofs.OnSphere.{vector_at, images_fine}
 -- ---- the same refusals
 
 -- a point that is not refused was not refused in the plane
-needed_plane : (s : List Float) (scale : Float) (b : Before) → needed_verdict s scale b ≡ Fine → verdict_before b ≡ Fine
-needed_plane s scale Nothing e = refl
-needed_plane s scale (Point p) e = refl
-needed_plane s scale (Refused r) e = e
+needed_plane : (s : List Float) (scale : Float) (b : Result (Option BoundaryPoint) Refusal) → needed_verdict s scale b ≡ fine → verdict_before b ≡ fine
+needed_plane s scale (Ok None) e = refl
+needed_plane s scale (Ok (Some p)) e = refl
+needed_plane s scale (Err r) e = e
 
-points_plane : (s : List Float) (scale : Float) (k : Shape) (n : ℕ) → first_refused s scale (needed_to k n) ≡ Fine → verdict_to k n ≡ Fine
+points_plane : (s : List Float) (scale : Float) (k : Shape) (n : ℕ) → first_refused s scale (needed_to k n) ≡ fine → verdict_to k n ≡ fine
 unfolding needed_to verdict_to
 points_plane s scale k zero e = refl
 points_plane s scale k (suc n) e =
@@ -60,16 +57,16 @@ points_plane s scale k (suc n) e =
 
 module _ (sides : ℕ) (s : List Float) (p : Place) (l start n : ℕ) where
   -- Where the boundary on the sphere is answered, the frame has passed, ..
-  pub frame_passed : globe_verdict sides s p l start n ≡ Fine → bad_frame s ≡ false
+  pub frame_passed : globe_verdict sides s p l start n ≡ fine → bad_frame s ≡ false
   unfolding globe_verdict
   frame_passed e = (passed (bad_frame s) BadFrame _ (both_fine (first (globe_reasons sides s p l start n)) _ e).0).0
 
-  tests_passed : globe_verdict sides s p l start n ≡ Fine → first (boundary_reasons sides p l start n) ≡ Fine
+  tests_passed : globe_verdict sides s p l start n ≡ fine → first (boundary_reasons sides p l start n) ≡ fine
   unfolding globe_verdict
   tests_passed e = (passed (bad_frame s) BadFrame _ (both_fine (first (globe_reasons sides s p l start n)) _ e).0).1
 
   -- .. and the plane boundary is answered too.
-  pub plane_answered : globe_verdict sides s p l start n ≡ Fine → boundary_verdict sides p l start n ≡ Fine
+  pub plane_answered : globe_verdict sides s p l start n ≡ fine → boundary_verdict sides p l start n ≡ fine
   unfolding globe_verdict boundary_verdict
   plane_answered e =
       let k = asked_shape sides p l start in
@@ -81,7 +78,7 @@ module _ (sides : ℕ) (s : List Float) (p : Place) (l start n : ℕ) where
   same_tests f = rw f
 
   -- So a plane boundary that is refused with 3, 4, 5, 10 or 11 is refused so on the sphere, with every frame that passes.
-  pub plane_refused : (r : Refusal) → bad_frame s ≡ false → number_of r < 12 → boundary_verdict sides p l start n ≡ Verdict.Refused r → globe_verdict sides s p l start n ≡ Verdict.Refused r
+  pub plane_refused : (r : Refusal) → bad_frame s ≡ false → number_of r < 12 → boundary_verdict sides p l start n ≡ Err r → globe_verdict sides s p l start n ≡ Err r
   unfolding globe_verdict boundary_verdict
   plane_refused r f low e =
       let k = asked_shape sides p l start in
@@ -93,7 +90,7 @@ module _ (sides : ℕ) (s : List Float) (p : Place) (l start n : ℕ) where
       high (inr q) = let z = ap number_of q in omega arith
 
   -- A refused boundary is its number and zeros.
-  pub refused_zeros : (r : Refusal) → globe_verdict sides s p l start n ≡ Verdict.Refused r → globe_reply sides s p l start n ≡ refusal 61 r
+  pub refused_zeros : (r : Refusal) → globe_verdict sides s p l start n ≡ Err r → globe_reply sides s p l start n ≡ refusal 61 r
   refused_zeros r e = ap (λ (v : Verdict). reply 61 v (globe_values (globe_points sides s p l start n))) e
 
 -- The points beyond the count are zero.
@@ -115,11 +112,11 @@ pub record Image (s : List Float) (l : ℕ) (p : BoundaryPoint) (q : SpherePoint
   pub mark : q.mark ≡ p.mark
   pub vector : sphere_reply s p.face (raised_of l) (point p.x p.y) ≡ answer (vector_values (vector_at q))
 
-image : (s : List Float) (l : ℕ) (p : BoundaryPoint) → bad_frame s ≡ false → bad_grid (raised_of l) ≡ false → p.face < 20 → image_verdict s (scale_of (raised_of l)) p ≡ Fine → Image s l p (image_of s (scale_of (raised_of l)) p)
+image : (s : List Float) (l : ℕ) (p : BoundaryPoint) → bad_frame s ≡ false → bad_grid (raised_of l) ≡ false → p.face < 20 → image_verdict s (scale_of (raised_of l)) p ≡ fine → Image s l p (image_of s (scale_of (raised_of l)) p)
 unfolding image_of
 image s l p f g on e = record { face = refl; mark = refl; vector = rw (f, le-ltb 19 p.face (omega arith), g, e) }
 
-images : (s : List Float) (l : ℕ) → bad_frame s ≡ false → bad_grid (raised_of l) ≡ false → (ps : List BoundaryPoint) → Each (λ (p : BoundaryPoint). p.face < 20) ps → Each (λ (p : BoundaryPoint). image_verdict s (scale_of (raised_of l)) p ≡ Fine) ps → Beside (Image s l) ps (map (image_of s (scale_of (raised_of l))) ps)
+images : (s : List Float) (l : ℕ) → bad_frame s ≡ false → bad_grid (raised_of l) ≡ false → (ps : List BoundaryPoint) → Each (λ (p : BoundaryPoint). p.face < 20) ps → Each (λ (p : BoundaryPoint). image_verdict s (scale_of (raised_of l)) p ≡ fine) ps → Beside (Image s l) ps (map (image_of s (scale_of (raised_of l))) ps)
 images s l f g [] on e = tt
 images s l f g (p ∷ ps) on e = (image s l p f g on.0 e.0, images s l f g ps on.1 e.1)
 
@@ -128,10 +125,10 @@ images s l f g (p ∷ ps) on e = (image s l p f g on.0 e.0, images s l f g ps on
 abbrev On : BoundaryPoint → Type 0
 On p = p.face < 20
 
-before_points : (b : Before) → OnFace b → Each On (points_before b)
-before_points Nothing h = tt
-before_points (Point p) h = (on_face h, tt)
-before_points (Refused r) h = tt
+before_points : (b : Result (Option BoundaryPoint) Refusal) → OnFace b → Each On (points_before b)
+before_points (Ok None) h = tt
+before_points (Ok (Some p)) h = (on_face h, tt)
+before_points (Err r) h = tt
 
 points_on : (s : Shape) → Fit s → (k : ℕ) → Each On (points_to s k)
 unfolding points_to points_in
@@ -142,7 +139,7 @@ points_on s fit (suc k) =
 
 module _ (sides : ℕ) (s : List Float) (p : Place) (l start n : ℕ) (many : 5 ≤ sides) (few : sides ≤ 6) where
   -- A boundary on the sphere that is answered is the plane boundary, point by point its image under the entry of one point, with the same count, faces and marks.
-  pub point_by_point : globe_verdict sides s p l start n ≡ Fine → Beside (Image s l) (boundary_points sides p l start n) (globe_points sides s p l start n)
+  pub point_by_point : globe_verdict sides s p l start n ≡ fine → Beside (Image s l) (boundary_points sides p l start n) (globe_points sides s p l start n)
   unfolding globe_points boundary_points cell_of
   point_by_point e =
       let fit = asked_fit sides p l start n many few (tests_passed sides s p l start n e) in

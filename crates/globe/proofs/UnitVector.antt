@@ -11,7 +11,7 @@ use lib.Ieee.Digits.{Equals}
 use lib.Ieee.Fits.{down_pos, add-fits}
 use lib.Ieee.Exact.{HasValue}
 use lib.Ieee.Order.{le_of_values}
-use Rattle.reply.specs.declared.Verdict.TheVariants.{Fine}
+use Rattle.reply.specs.Replies.{fine}
 use Rattle.double.specs.Double.{finite, quarter, mul_add_of, sphere_low, sphere_high}
 use Rattle.double.specs.Sizes.{units_of, Under}
 use Rattle.double.proofs.Finite.{add_finite}
@@ -241,5 +241,5 @@ module _ (v : Vec3d) (held : Held v) (number : finite (dot_of v v) ≡ true) (fa
       (sphere_least L q Λ (times_u X X) (times_u A A) (times_u Y Y) (times_u B B) (times_u Z Z) (times_u C C) (inner_u Y Z) (inner_u B C) (square_u A B C) S (p X) (p Y) (p Z) R E (lit≤ tt) near)
 
   -- Such a vector over its length is on the sphere, by the test of document 01.
-  pub unit_fine : vector_verdict (divided_by (root_of (dot_of v v)) v) ≡ Fine
+  pub unit_fine : vector_verdict (divided_by (root_of (dot_of v v)) v) ≡ fine
   unit_fine = rw (on_sphere unit passes, passes)

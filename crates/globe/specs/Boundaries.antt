@@ -1,12 +1,11 @@
 -- The boundary of a cell on the sphere. Document 02, §1: the plane boundary point by point, each point by the rule of one point.
-use Rattle.std.specs.Prelude.{List, [], ◌∷◌, ◌++◌, map, ℕ, zero, suc, length, ltb, Float}
+use Rattle.reply.specs.declared.Refusal.{Refusal}
+use Rattle.std.specs.Prelude.{List, [], ◌∷◌, ◌++◌, map, ℕ, zero, suc, length, ltb, Float, Ok, Err, Result, Option, Some, None}
 use Rattle.std.specs.Float.{binary64}
 use Rattle.std.specs.Float.Ieee.{to_bits}
 use Rattle.reply.specs.Choice.{pick}
-use Rattle.reply.specs.declared.Verdict.{Verdict}
-use Rattle.reply.specs.declared.Verdict.TheVariants.{Fine}
 use Rattle.reply.specs.declared.Refusal.TheVariants.{BadFrame}
-use Rattle.reply.specs.Replies.{verdict_number, Reason, when, first, Reply, reply}
+use Rattle.reply.specs.Replies.{Reason, when, first, Reply, said, reply, Verdict, fine}
 use Rattle.double.specs.Double.{nought}
 use Rattle.level.specs.Levels.{raised_of}
 use Rattle.faceijk.specs.declared.Place.{Place}
@@ -15,8 +14,6 @@ use Rattle.vec3d.specs.declared.Vec3d.{Vec3d}
 use Rattle.vec3d.specs.Frame.{face_at, bad_frame}
 use Rattle.boundary.specs.declared.Shape.{Shape}
 use Rattle.boundary.specs.declared.BoundaryPoint.{BoundaryPoint}
-use Rattle.boundary.specs.declared.Before.{Before}
-use Rattle.boundary.specs.declared.Before.TheVariants.{Nothing, Point, Refused}
 use Rattle.boundary.specs.Landing.{land_at}
 use Rattle.boundary.specs.CrossingPoints.{corner_point, before_at}
 use Rattle.boundary.specs.Boundaries.{or_else, turns_for, boundary_reasons, asked_shape, boundary_points, room_with}
@@ -42,22 +39,22 @@ abbrev pub image_verdict : List Float → Float → BoundaryPoint → Verdict
 image_verdict s scale p = lift_verdict (face_at s p.face) scale (point p.x p.y)
 
 -- what is said of a point that is needed: its own 12 or 13, or what is said of its projection
-abbrev pub needed_verdict : List Float → Float → Before → Verdict
-needed_verdict s scale Nothing = Fine
-needed_verdict s scale (Point p) = image_verdict s scale p
-needed_verdict s scale (Refused r) = Verdict.Refused r
+abbrev pub needed_verdict : List Float → Float → Result (Option BoundaryPoint) Refusal → Verdict
+needed_verdict s scale (Ok None) = fine
+needed_verdict s scale (Ok (Some p)) = image_verdict s scale p
+needed_verdict s scale (Err r) = Err r
 
 -- the points of turn k in order: what stands before its corner, and the corner; a turn past all corners has none
-abbrev pub corner_in : Shape → ℕ → Place → Before
-corner_in s k landing = pick (ltb k s.sides) (Point (corner_point landing)) Nothing
+abbrev pub corner_in : Shape → ℕ → Place → Result (Option BoundaryPoint) Refusal
+corner_in s k landing = pick (ltb k s.sides) (Ok (Some (corner_point landing))) (Ok None)
 
-unfoldable pub needed_to : Shape → ℕ → List Before
+unfoldable pub needed_to : Shape → ℕ → List (Result (Option BoundaryPoint) Refusal)
 needed_to s zero = []
 needed_to s (suc k) = needed_to s k ++ (before_at s k ∷ corner_in s k (land_at s k).place ∷ [])
 
 -- the points are taken in order, and the first one that is refused refuses the boundary
-abbrev pub first_refused : List Float → Float → List Before → Verdict
-first_refused s scale [] = Fine
+abbrev pub first_refused : List Float → Float → List (Result (Option BoundaryPoint) Refusal) → Verdict
+first_refused s scale [] = fine
 first_refused s scale (b ∷ bs) = or_else (needed_verdict s scale b) (first_refused s scale bs)
 
 -- BadFrame, then the reasons of the plane boundary
@@ -85,8 +82,8 @@ sphere_points_values [] = []
 sphere_points_values (p ∷ ps) = sphere_point_values p ++ sphere_points_values ps
 
 -- the entry, in the paper's numbers: the count, then face, x, y, z and mark of each of the twelve points
-abbrev pub said_globe : SphereBoundary → Reply
-said_globe b = record { number = verdict_number b.refusal; values = b.count ∷ sphere_points_values b.points }
+abbrev pub said_globe : Result SphereBoundary Refusal → Reply
+said_globe = said 61 (λ b. b.count ∷ sphere_points_values b.points)
 
 abbrev pub globe_values : List SpherePoint → List ℕ
 globe_values ps = length ps ∷ sphere_points_values (room_with no_sphere_point ps)

@@ -1,10 +1,10 @@
 -- From a plane point of a face to the sphere. Document 02, §1.
-use Rattle.std.specs.Prelude.{Bool, true, not, ◌||◌, List, [], ◌∷◌, ℕ, pos, Float}
+use Rattle.reply.specs.declared.Refusal.{Refusal}
+use Rattle.std.specs.Prelude.{Bool, true, not, ◌||◌, List, [], ◌∷◌, ℕ, pos, Float, Result}
 use Rattle.std.specs.Float.{binary64}
 use Rattle.std.specs.Float.Ieee.{add, mul, div, eq, lt, of_int, to_bits}
-use Rattle.reply.specs.declared.Verdict.{Verdict}
 use Rattle.reply.specs.declared.Refusal.TheVariants.{BadFrame, BadFace, BadLevel, BadNumber, Behind}
-use Rattle.reply.specs.Replies.{Reply, Reason, when, first, answer, refusal, reply}
+use Rattle.reply.specs.Replies.{Reply, Reason, when, first, reply, Verdict, said}
 use Rattle.level.specs.Levels.{bad_grid, unit_of}
 use Rattle.faceijk.specs.Places.{bad_face}
 use Rattle.double.specs.Double.{nought, quarter, finite}
@@ -15,8 +15,6 @@ use Rattle.vec3d.specs.declared.FaceAxes.{FaceAxes}
 use Rattle.vec3d.specs.Vectors.{dot_of}
 use Rattle.vec3d.specs.Frame.{face_at, bad_frame}
 use Rattle.root.specs.Root.{root_of}
-use Rattle.globe.specs.declared.Lifted.{Lifted}
-use Rattle.globe.specs.declared.Lifted.TheVariants.{Done, Refused}
 
 abbrev pub vector : Float → Float → Float → Vec3d
 vector x y z = record { x = x; y = y; z = z }
@@ -78,9 +76,8 @@ sphere_verdict s f l p = first (sphere_reasons s f l p)
 abbrev pub vector_values : Vec3d → List ℕ
 vector_values v = to_bits binary64 v.x ∷ to_bits binary64 v.y ∷ to_bits binary64 v.z ∷ []
 
-abbrev pub said_lifted : Lifted → Reply
-said_lifted (Done v) = answer (vector_values v)
-said_lifted (Refused r) = refusal 3 r
+abbrev pub said_lifted : Result Vec3d Refusal → Reply
+said_lifted = said 3 vector_values
 
 abbrev pub sphere_reply : List Float → ℕ → ℕ → Vec2d → Reply
 sphere_reply s f l p = reply 3 (sphere_verdict s f l p) (vector_values (sphere_of (face_at s f) (scale_of l) p))

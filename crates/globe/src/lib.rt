@@ -1,37 +1,31 @@
 // Boundary points on the sphere: a plane point of a face becomes a unit vector, and so does every point of a cell's boundary.
 #![tactic(auto)]
 
-ghost use Rattle.std.specs.Prelude.{◌≡◌, false, [], ◌+◌, ◌≤◌, ◌<◌};
+ghost use Rattle.std.specs.Prelude.{◌≡◌, false, ◌+◌, ◌≤◌, ◌<◌};
 ghost use Rattle.level.specs.Levels.{bad_grid};
 ghost use Rattle.vec3d.specs.Frame.{bad_frame};
 ghost use Rattle.boundary.specs.Boundaries.{turns_for};
 ghost use Rattle.boundary.specs.AsWalked.{Solid, Fit, Deep};
 ghost use Rattle.globe.specs.Points.{scale_of, along_of, reached_of, divided_by, said_lifted, sphere_reply};
-ghost use Rattle.globe.specs.Boundaries.{sides_of, with_vector, corner_in, said_globe, globe_reply};
-ghost use Rattle.globe.specs.AsWorked.{OnFace, length_of, lifted_of, imaged_of, over_of, globe_of, turned_of, within_of};
+ghost use Rattle.globe.specs.Boundaries.{sides_of, with_vector, said_globe, globe_reply};
+ghost use Rattle.globe.specs.AsWorked.{length_of, lifted_of, imaged_of, over_of, turned_of, within_of};
 
-use boundary::{Before, BoundaryPoint, Cell, Shape};
+use boundary::{BoundaryPoint, Cell, Shape};
 use faceijk::{Landed, Overage, Place};
-use level::{CellLevel, GridLevel, Gridded};
-use reply::{Refusal, Verdict};
+use level::{CellLevel, GridLevel};
+use reply::Refusal;
 use vec2d::Vec2d;
 use vec3d::{FaceAxes, Vec3d};
 
-#[derive(Clone, Copy)]
-pub enum Lifted {
-    Done(Vec3d),
-    Refused(Refusal),
-}
-
-// What a boundary goes round.
-#[derive(Clone, Copy)]
+// What a boundary goes round, by the number of its sides.
+#[derive(Clone, Copy, Debug, PartialEq, Eq)]
 pub enum Outline {
-    Hexagon,
-    Pentagon,
+    Hexagon = 6,
+    Pentagon = 5,
 }
 
 // A point of a boundary on the sphere. Face and mark are those of the plane point that it is the image of; at mark 0 it is unused.
-#[derive(Clone, Copy)]
+#[derive(Clone, Copy, Debug, PartialEq)]
 pub struct SpherePoint {
     pub face: u32,
     pub mark: u32,
@@ -41,26 +35,10 @@ pub struct SpherePoint {
 }
 
 // A count, and in the same record room for twelve points.
-#[derive(Clone, Copy)]
+#[derive(Clone, Copy, Debug, PartialEq)]
 pub struct SphereBoundary {
-    pub refusal: Verdict,
     pub count: u32,
     pub points: [SpherePoint; 12],
-}
-
-// A vector's length.
-#[derive(Clone, Copy)]
-enum Length {
-    Done(f64),
-    Refused(Refusal),
-}
-
-// The image of what stands before a corner, or of the corner.
-#[derive(Clone, Copy)]
-enum Imaged {
-    Nothing,
-    Point(SpherePoint),
-    Refused(Refusal),
 }
 
 // The squared length below which a point counts as behind.
@@ -90,16 +68,16 @@ fn reach(axes: FaceAxes, scale: f64, p: Vec2d) -> Vec3d
 }
 
 // The root of a squared length. A point that is no number and a u of length zero have left no finite one, so that it alone is tested.
-fn length_of(square: f64) -> Length
+fn length_of(square: f64) -> Result<f64, Refusal>
     ensures { result ≡ length_of square }
 {
     if double::is_finite(square) {
         if square < BEHIND {
-            return Length::Refused(Refusal::Behind);
+            return Err(Refusal::Behind);
         }
-        return Length::Done(root::positive_root(square));
+        return Ok(root::positive_root(square));
     }
-    Length::Refused(Refusal::BadNumber)
+    Err(Refusal::BadNumber)
 }
 
 fn divided(v: Vec3d, length: f64) -> Vec3d
@@ -109,44 +87,34 @@ fn divided(v: Vec3d, length: f64) -> Vec3d
 }
 
 // The point on the sphere of a plane point.
-fn lift(axes: FaceAxes, scale: f64, p: Vec2d) -> Lifted
+fn lift(axes: FaceAxes, scale: f64, p: Vec2d) -> Result<Vec3d, Refusal>
     ensures { result ≡ lifted_of axes scale p }
 {
     let v = reach(axes, scale, p);
-    let length = length_of(v.dot(v));
-    match length {
-        Length::Done(l) => Lifted::Done(divided(v, l)),
-        Length::Refused(refusal) => Lifted::Refused(refusal),
-    }
+    let l = length_of(v.dot(v))?;
+    Ok(divided(v, l))
 }
 
-// The unit of a substrate grid. The arm of a refusal is never reached.
+// The unit of a substrate grid.
 fn scale_of(level: GridLevel) -> f64
     requires { bad_grid level.0 ≡ false }
     ensures { result ≡ scale_of level.0 }
 {
-    let gridded = level.grid(true);
-    match gridded {
-        Gridded::Done(grid) => grid.unit as f64,
-        Gridded::Refused(_) => 0.0,
-    }
+    f64::from(level.grid(true).unwrap().unit)
 }
 
 // A plane point of a face on the substrate grid of a grid level, as a unit vector.
-pub fn sphere_point(frame: &[f64], face: u32, level: GridLevel, p: Vec2d) -> Lifted
+pub fn sphere_point(frame: &[f64], face: u32, level: GridLevel, p: Vec2d) -> Result<Vec3d, Refusal>
     ensures { said_lifted result ≡ sphere_reply frame.now face level.0 p }
 {
     if vec3d::bad_frame(frame) {
-        return Lifted::Refused(Refusal::BadFrame);
+        return Err(Refusal::BadFrame);
     }
     if Place::LAST_FACE < face {
-        return Lifted::Refused(Refusal::BadFace);
+        return Err(Refusal::BadFace);
     }
-    let verdict = level.verdict();
-    match verdict {
-        Verdict::Fine => lift(vec3d::face_at(frame, face), scale_of(level), p),
-        Verdict::Refused(refusal) => Lifted::Refused(refusal),
-    }
+    level.verdict()?;
+    lift(vec3d::face_at(frame, face), scale_of(level), p)
 }
 
 impl SpherePoint {
@@ -175,108 +143,57 @@ impl SpherePoint {
         ensures { result ≡ over_of length self }
     {
         SpherePoint {
-            face: self.face,
-            mark: self.mark,
             x: self.x / length,
             y: self.y / length,
             z: self.z / length,
-        }
-    }
-}
-
-impl SphereBoundary {
-    fn refused(refusal: Refusal) -> SphereBoundary
-        ensures { result ≡ globe_of (Verdict.Refused refusal) [] }
-    {
-        let points = [SpherePoint::UNUSED; 12];
-        SphereBoundary {
-            refusal: Verdict::Refused(refusal),
-            count: 0,
-            points,
+            ..self
         }
     }
 }
 
 // A plane point by its face's axes, with its face and mark.
-fn image_of_point(frame: &[f64], scale: f64, p: BoundaryPoint) -> Imaged
+fn image_of(frame: &[f64], scale: f64, p: BoundaryPoint) -> Result<SpherePoint, Refusal>
     requires { (bad_frame frame.now ≡ false) × (p.face < 20) }
-    ensures { result ≡ imaged_of frame.now scale (Before.Point p) }
+    ensures { result ≡ imaged_of frame.now scale p }
 {
-    let lifted = lift(vec3d::face_at(frame, p.face), scale, Vec2d::new(p.x, p.y));
-    match lifted {
-        Lifted::Done(v) => Imaged::Point(SpherePoint::on(p.face, p.mark, v)),
-        Lifted::Refused(refusal) => Imaged::Refused(refusal),
-    }
-}
-
-fn image_of(frame: &[f64], scale: f64, needed: Before) -> Imaged
-    requires { (bad_frame frame.now ≡ false) × OnFace needed }
-    ensures { result ≡ imaged_of frame.now scale needed }
-{
-    match needed {
-        Before::Nothing => Imaged::Nothing,
-        Before::Point(p) => image_of_point(frame, scale, p),
-        Before::Refused(refusal) => Imaged::Refused(refusal),
-    }
-}
-
-// The corner of turn k, which has landed; a turn past all corners has none.
-fn corner_at(shape: Shape, k: u32, place: Place) -> Before
-    ensures { result ≡ corner_in shape k place }
-{
-    if k < shape.sides {
-        return Before::Point(BoundaryPoint::corner(place));
-    }
-    Before::Nothing
+    let v = lift(vec3d::face_at(frame, p.face), scale, Vec2d::new(p.x, p.y))?;
+    Ok(SpherePoint::on(p.face, p.mark, v))
 }
 
 // So many turns round a shape: the points in order, or the refusal of the first one that is refused.
-fn walk(frame: &[f64], shape: Shape, turns: u32) -> SphereBoundary
+fn walk(frame: &[f64], shape: Shape, turns: u32) -> Result<SphereBoundary, Refusal>
     requires { (bad_frame frame.now ≡ false) × Fit shape × (turns ≤ shape.sides + 1) }
     ensures { result ≡ turned_of frame.now shape turns }
 {
     let mut points = [SpherePoint::UNUSED; 12];
     let mut count: usize = 0;
-    let scale = shape.cell.grid.unit as f64;
+    let scale = f64::from(shape.cell.grid.unit);
     let centre = shape.cell.centre;
     let mut last = Landed {
         place: centre,
         overage: Overage::None,
     };
-    let mut k = 0u32;
-    while k < turns {
+    for k in 0..turns {
         let now = shape.landed(k);
-        let found = image_of(frame, scale, shape.before(k, last, now));
-        match found {
-            Imaged::Nothing => {}
-            Imaged::Point(point) => {
-                points[count] = point;
-                count += 1;
-            }
-            Imaged::Refused(refusal) => return SphereBoundary::refused(refusal),
+        if let Some(p) = shape.before(k, last, now)? {
+            points[count] = image_of(frame, scale, p)?;
+            count += 1;
         }
-        let corner = image_of(frame, scale, corner_at(shape, k, now.place));
-        match corner {
-            Imaged::Nothing => {}
-            Imaged::Point(point) => {
-                points[count] = point;
-                count += 1;
-            }
-            Imaged::Refused(refusal) => return SphereBoundary::refused(refusal),
+        if k < shape.sides {
+            points[count] = image_of(frame, scale, BoundaryPoint::corner(now.place))?;
+            count += 1;
         }
         last = now;
-        k += 1;
     }
-    SphereBoundary {
-        refusal: Verdict::Fine,
+    Ok(SphereBoundary {
         count: count as u32,
         points,
-    }
+    })
 }
 
 // A hexagon whose corners all stay on its face, which is read once. The corners are worked out side by side, one stage after the other, so that no root waits for
 // the division before it.
-fn inside(frame: &[f64], shape: Shape, length: u32) -> SphereBoundary
+fn inside(frame: &[f64], shape: Shape, length: u32) -> Result<SphereBoundary, Refusal>
     requires { (bad_frame frame.now ≡ false) × Deep shape × (length ≤ shape.sides) }
     ensures { result ≡ turned_of frame.now shape (turns_for shape.sides length) }
 {
@@ -284,47 +201,34 @@ fn inside(frame: &[f64], shape: Shape, length: u32) -> SphereBoundary
     let mut lengths = [0.0; 6];
     let face = shape.cell.centre.face;
     let axes = vec3d::face_at(frame, face);
-    let scale = shape.cell.grid.unit as f64;
-    let mut k = 0u32;
-    while k < length {
+    let scale = f64::from(shape.cell.grid.unit);
+    for k in 0..length {
         let v = reach(axes, scale, Vec2d::from_ijk(shape.corner(k).coord()));
         points[k as usize] = SpherePoint::on(face, BoundaryPoint::CORNER, v);
         lengths[k as usize] = v.dot(v);
-        k += 1;
     }
-    let mut l = 0u32;
-    while l < length {
-        let found = length_of(lengths[l as usize]);
-        match found {
-            Length::Done(root) => {
-                lengths[l as usize] = root;
-            }
-            Length::Refused(refusal) => return SphereBoundary::refused(refusal),
-        }
-        l += 1;
+    for l in 0..length {
+        lengths[l as usize] = length_of(lengths[l as usize])?;
     }
-    let mut m = 0u32;
-    while m < length {
+    for m in 0..length {
         points[m as usize] = points[m as usize].over(lengths[m as usize]);
-        m += 1;
     }
-    SphereBoundary {
-        refusal: Verdict::Fine,
+    Ok(SphereBoundary {
         count: length,
         points,
-    }
+    })
 }
 
 // A shape's boundary, unless the centre lies out of its face. No offset of a corner has a sum above 9.
-fn border(frame: &[f64], shape: Shape, length: u32) -> SphereBoundary
+fn border(frame: &[f64], shape: Shape, length: u32) -> Result<SphereBoundary, Refusal>
     requires { (bad_frame frame.now ≡ false) × Solid shape × (length ≤ shape.sides) }
     ensures { result ≡ within_of frame.now shape length }
 {
     let centre = shape.cell.centre;
     let sum = centre.sum();
-    let limit = 3 * shape.cell.m as u64;
+    let limit = 3 * u64::from(shape.cell.m);
     if limit < sum {
-        return SphereBoundary::refused(Refusal::OutOfFace);
+        return Err(Refusal::OutOfFace);
     }
     let sides = shape.sides;
     if (sides == 6) & (sum + 9 < limit) {
@@ -337,10 +241,7 @@ impl Outline {
     fn sides(self) -> u32
         ensures { result ≡ sides_of self }
     {
-        match self {
-            Outline::Hexagon => 6,
-            Outline::Pentagon => 5,
-        }
+        self as u32
     }
 }
 
@@ -353,19 +254,14 @@ pub fn sphere_boundary(
     level: CellLevel,
     start: u32,
     length: u32,
-) -> SphereBoundary
+) -> Result<SphereBoundary, Refusal>
     ensures { said_globe result ≡ globe_reply (sides_of outline) frame.now centre level.0 start length }
 {
     if vec3d::bad_frame(frame) {
-        return SphereBoundary::refused(Refusal::BadFrame);
+        return Err(Refusal::BadFrame);
     }
     let sides = outline.sides();
-    let verdict = boundary::cell_verdict(centre, level, (sides <= start) | (sides < length));
-    match verdict {
-        Verdict::Fine => {
-            let cell = Cell::made(centre, level);
-            border(frame, Shape { cell, sides, start }, length)
-        }
-        Verdict::Refused(refusal) => SphereBoundary::refused(refusal),
-    }
+    boundary::cell_verdict(centre, level, (sides <= start) | (sides < length))?;
+    let cell = Cell::made(centre, level);
+    border(frame, Shape { cell, sides, start }, length)
 }

@@ -40,7 +40,7 @@ use reply::Refusal;
 pub extern "C" fn heddleplume_raise(level: u32, out: &mut [u32]) -> u32
     ensures { Gives 1 (raise_reply level) out.old out.new result }
 {
-    lent_grid::raise(level, out)
+    lent::status(lent_grid::raise(level, out))
 }
 
 // The grid of a level: unit scale, limit, and 1 for a substrate grid, 0 for a plain one.
@@ -48,7 +48,7 @@ pub extern "C" fn heddleplume_raise(level: u32, out: &mut [u32]) -> u32
 pub extern "C" fn heddleplume_grid(level: u32, substrate: bool, out: &mut [u32]) -> u32
     ensures { Gives 3 (grid_reply level substrate) out.old out.new result }
 {
-    lent_grid::grid(level, substrate, out)
+    lent::status(lent_grid::grid(level, substrate, out))
 }
 
 // A triple reduced: i, j, k.
@@ -56,7 +56,7 @@ pub extern "C" fn heddleplume_grid(level: u32, substrate: bool, out: &mut [u32])
 pub extern "C" fn heddleplume_reduce(i: u32, j: u32, k: u32, out: &mut [u32]) -> u32
     ensures { Gives 3 (answer (coord_values (reduced i j k))) out.old out.new result }
 {
-    lent_grid::reduce(i, j, k, out)
+    lent::status(lent_grid::reduce(i, j, k, out))
 }
 
 // A triple under one of the five maps, 1..5: i, j, k.
@@ -64,7 +64,7 @@ pub extern "C" fn heddleplume_reduce(i: u32, j: u32, k: u32, out: &mut [u32]) ->
 pub extern "C" fn heddleplume_map(map: u32, i: u32, j: u32, k: u32, out: &mut [u32]) -> u32
     ensures { Gives 3 (numbered_reply map (coord i j k)) out.old out.new result }
 {
-    lent_grid::map(map, i, j, k, out)
+    lent::status(lent_grid::map(map, i, j, k, out))
 }
 
 // The hexagon of a plane point: i, j, k; and the leftovers by which it was chosen: r1, r2.
@@ -72,7 +72,7 @@ pub extern "C" fn heddleplume_map(map: u32, i: u32, j: u32, k: u32, out: &mut [u
 pub extern "C" fn heddleplume_round(x: f64, y: f64, out: &mut [u32], left: &mut [f64]) -> u32
     ensures { GivesParts false 3 2 (round_reply (point x y)) out.old out.new (bits_of left.old) (bits_of left.new) result }
 {
-    lent_grid::round(x, y, out, left)
+    lent::status(lent_grid::round(x, y, out, left))
 }
 
 // How far a point with these leftovers was from the nearest border of its hexagon, in hexagons: 0 on the border, 1/2 at the centre.
@@ -80,7 +80,7 @@ pub extern "C" fn heddleplume_round(x: f64, y: f64, out: &mut [u32], left: &mut 
 pub extern "C" fn heddleplume_margin(r1: f64, r2: f64, out: &mut [f64]) -> u32
     ensures { Gives 1 (margin_reply (leftovers r1 r2)) (bits_of out.old) (bits_of out.new) result }
 {
-    lent_grid::margin(r1, r2, out)
+    lent::status(lent_grid::margin(r1, r2, out))
 }
 
 // The centre of a hexagon: x, y.
@@ -88,7 +88,7 @@ pub extern "C" fn heddleplume_margin(r1: f64, r2: f64, out: &mut [f64]) -> u32
 pub extern "C" fn heddleplume_centre(i: u32, j: u32, k: u32, out: &mut [f64]) -> u32
     ensures { Gives 2 (centre_reply (coord i j k)) (bits_of out.old) (bits_of out.new) result }
 {
-    lent_grid::centre(i, j, k, out)
+    lent::status(lent_grid::centre(i, j, k, out))
 }
 
 // Where two lines meet: x, y. The lines are eight doubles, x and y of the first from and to, then of the second.
@@ -96,7 +96,7 @@ pub extern "C" fn heddleplume_centre(i: u32, j: u32, k: u32, out: &mut [f64]) ->
 pub extern "C" fn heddleplume_meet(lines: &[f64], out: &mut [f64]) -> u32
     ensures { Gives 2 (lines_reply lines.now) (bits_of out.old) (bits_of out.new) result }
 {
-    lent_grid::meet(lines, out)
+    lent::status(lent_grid::meet(lines, out))
 }
 
 // Whether two plane points are equal within the tolerance: 1 yes, 0 no.
@@ -110,7 +110,7 @@ pub extern "C" fn heddleplume_alike(
 ) -> u32
     ensures { Gives 1 (alike_reply (point x y) (point other_x other_y)) out.old out.new result }
 {
-    lent_grid::alike(x, y, other_x, other_y, out)
+    lent::status(lent_grid::alike(x, y, other_x, other_y, out))
 }
 
 // The direction from one face to another: 0, 1, 2, 3 or 7.
@@ -118,7 +118,7 @@ pub extern "C" fn heddleplume_alike(
 pub extern "C" fn heddleplume_direction(from: u32, to: u32, out: &mut [u32]) -> u32
     ensures { Gives 1 (direction_reply from to) out.old out.new result }
 {
-    lent_grid::direction(from, to, out)
+    lent::status(lent_grid::direction(from, to, out))
 }
 
 // A sixth turn: face, i, j, k.
@@ -133,7 +133,7 @@ pub extern "C" fn heddleplume_turn(
 ) -> u32
     ensures { Gives 4 (turn_reply (at face i j k) clockwise) out.old out.new result }
 {
-    lent_grid::turn(face, i, j, k, clockwise, out)
+    lent::status(lent_grid::turn(face, i, j, k, clockwise, out))
 }
 
 // The step over a named edge: face, i, j, k.
@@ -150,7 +150,7 @@ pub extern "C" fn heddleplume_step(
 ) -> u32
     ensures { Gives 4 (step_reply (at face i j k) level substrate edge) out.old out.new result }
 {
-    lent_grid::step(face, i, j, k, level, substrate, edge, out)
+    lent::status(lent_grid::step(face, i, j, k, level, substrate, edge, out))
 }
 
 // Crossing: face, i, j, k, and 0 for None, 1 for FaceEdge, 2 for NewFace.
@@ -167,7 +167,7 @@ pub extern "C" fn heddleplume_cross(
 ) -> u32
     ensures { Gives 5 (cross_reply (at face i j k) level substrate turn) out.old out.new result }
 {
-    lent_grid::cross(face, i, j, k, level, substrate, turn, out)
+    lent::status(lent_grid::cross(face, i, j, k, level, substrate, turn, out))
 }
 
 // Settling: face, i, j, k, and the number of steps.
@@ -183,7 +183,7 @@ pub extern "C" fn heddleplume_settle(
 ) -> u32
     ensures { Gives 5 (settle_reply (at face i j k) level substrate) out.old out.new result }
 {
-    lent_grid::settle(face, i, j, k, level, substrate, out)
+    lent::status(lent_grid::settle(face, i, j, k, level, substrate, out))
 }
 
 // Whether two corners are the same, by whatever names: 1 yes, 0 no. The answer that compared two places is gone.
@@ -202,9 +202,9 @@ pub extern "C" fn heddleplume_same_corner(
 ) -> u32
     ensures { Gives 1 (same_reply (at face i j k) (at other_face other_i other_j other_k) level) out.old out.new result }
 {
-    lent_grid::same_corner(
+    lent::status(lent_grid::same_corner(
         face, i, j, k, other_face, other_i, other_j, other_k, level, out,
-    )
+    ))
 }
 
 // The first name of a corner: face, i, j, k.
@@ -219,7 +219,7 @@ pub extern "C" fn heddleplume_first_name(
 ) -> u32
     ensures { Gives 4 (first_reply (at face i j k) level) out.old out.new result }
 {
-    lent_grid::first_name(face, i, j, k, level, out)
+    lent::status(lent_grid::first_name(face, i, j, k, level, out))
 }
 
 // The face nearest to a unit vector, and its squared distance.
@@ -234,7 +234,7 @@ pub extern "C" fn heddleplume_nearest(
 ) -> u32
     ensures { GivesParts (bad_frame frame.now) 1 1 (nearest_reply frame.now (vec x y z)) face.old face.new (bits_of distance.old) (bits_of distance.new) result }
 {
-    lent_places::nearest(frame, x, y, z, face, distance)
+    lent::status(lent_places::nearest(frame, x, y, z, face, distance))
 }
 
 // The plane point of a unit vector on a named face at a cell level: x, y.
@@ -250,7 +250,7 @@ pub extern "C" fn heddleplume_plane_point(
 ) -> u32
     ensures { GivesFramed (bad_frame frame.now) 2 (plane_reply frame.now face level (vec x y z)) (bits_of out.old) (bits_of out.new) result }
 {
-    lent_places::plane_point(frame, face, level, x, y, z, out)
+    lent::status(lent_places::plane_point(frame, face, level, x, y, z, out))
 }
 
 // The place of a unit vector at a cell level: face, i, j, k; and the leftovers by which its hexagon was chosen: r1, r2.
@@ -266,7 +266,7 @@ pub extern "C" fn heddleplume_place(
 ) -> u32
     ensures { GivesParts (bad_frame frame.now) 4 2 (locate_reply frame.now level (vec x y z)) out.old out.new (bits_of left.old) (bits_of left.new) result }
 {
-    lent_places::place(frame, x, y, z, level, out, left)
+    lent::status(lent_places::place(frame, x, y, z, level, out, left))
 }
 
 // The places of a batch, one row of face, i, j, k for each vector; a refused row holds minus its refusal and zeros. `refused`: how many.
@@ -281,7 +281,7 @@ pub extern "C" fn heddleplume_batch(
 ) -> u32
     ensures { GivesBatch frame.now level input.now first out.old out.new refused.old refused.new result }
 {
-    lent_places::batch(frame, level, input, out, first, refused)
+    lent::status(lent_places::batch(frame, level, input, out, first, refused))
 }
 
 // The corners of a cell: the grid level, then i, j, k six times; a pentagon takes the first five.
@@ -296,7 +296,7 @@ pub extern "C" fn heddleplume_corners(
 ) -> u32
     ensures { Gives 19 (corners_reply (at face i j k) level) out.old out.new result }
 {
-    lent_borders::corners(face, i, j, k, level, out)
+    lent::status(lent_borders::corners(face, i, j, k, level, out))
 }
 
 // The boundary of a hexagon. marks: the count, then face and mark twelve times (1 corner, 2 crossing point, 0 unused); points: x, y twelve times.
@@ -314,7 +314,7 @@ pub extern "C" fn heddleplume_hexagon(
 ) -> u32
     ensures { GivesBoundary (boundary_reply 6 (at face i j k) level start length) marks.old marks.new (bits_of points.old) (bits_of points.new) result }
 {
-    lent_borders::hexagon(face, i, j, k, level, start, length, marks, points)
+    lent::status(lent_borders::hexagon(face, i, j, k, level, start, length, marks, points))
 }
 
 // The same of a pentagon.
@@ -332,7 +332,7 @@ pub extern "C" fn heddleplume_pentagon(
 ) -> u32
     ensures { GivesBoundary (boundary_reply 5 (at face i j k) level start length) marks.old marks.new (bits_of points.old) (bits_of points.new) result }
 {
-    lent_borders::pentagon(face, i, j, k, level, start, length, marks, points)
+    lent::status(lent_borders::pentagon(face, i, j, k, level, start, length, marks, points))
 }
 
 // The square root of a number.
@@ -340,7 +340,7 @@ pub extern "C" fn heddleplume_pentagon(
 pub extern "C" fn heddleplume_root(x: f64, out: &mut [f64]) -> u32
     ensures { Gives 1 (root_reply x) (bits_of out.old) (bits_of out.new) result }
 {
-    lent_globe::root(x, out)
+    lent::status(lent_globe::root(x, out))
 }
 
 // The unit vector of a plane point of a face on the substrate grid of a grid level: x, y, z.
@@ -355,7 +355,7 @@ pub extern "C" fn heddleplume_sphere(
 ) -> u32
     ensures { GivesFramed (bad_frame frame.now) 3 (sphere_reply frame.now face level (point x y)) (bits_of out.old) (bits_of out.new) result }
 {
-    lent_globe::sphere(frame, face, level, x, y, out)
+    lent::status(lent_globe::sphere(frame, face, level, x, y, out))
 }
 
 // The boundary of a hexagon on the sphere. marks: as for the plane; points: x, y, z twelve times.
@@ -374,7 +374,7 @@ pub extern "C" fn heddleplume_hexagon_sphere(
 ) -> u32
     ensures { GivesGlobe (bad_frame frame.now) (globe_reply 6 frame.now (at face i j k) level start length) marks.old marks.new (bits_of points.old) (bits_of points.new) result }
 {
-    lent_globe::hexagon(frame, face, i, j, k, level, start, length, marks, points)
+    lent::status(lent_globe::hexagon(frame, face, i, j, k, level, start, length, marks, points))
 }
 
 // The same of a pentagon.
@@ -393,7 +393,7 @@ pub extern "C" fn heddleplume_pentagon_sphere(
 ) -> u32
     ensures { GivesGlobe (bad_frame frame.now) (globe_reply 5 frame.now (at face i j k) level start length) marks.old marks.new (bits_of points.old) (bits_of points.new) result }
 {
-    lent_globe::pentagon(frame, face, i, j, k, level, start, length, marks, points)
+    lent::status(lent_globe::pentagon(frame, face, i, j, k, level, start, length, marks, points))
 }
 
 // The default frame: 180 doubles.
@@ -401,11 +401,10 @@ pub extern "C" fn heddleplume_pentagon_sphere(
 pub extern "C" fn heddleplume_frame(out: &mut [f64]) -> u32
     ensures { Gives 180 (answer (bits_of default_frame)) (bits_of out.old) (bits_of out.new) result }
 {
-    if out.len() < 180 {
+    let Some(values) = out.first_chunk_mut::<180>() else {
         return Refusal::BadRows.number();
-    }
-    let frame = frame::default_frame();
-    lent::put_doubles(out, 0, &frame);
+    };
+    *values = frame::default_frame();
     0
 }
 
@@ -414,7 +413,7 @@ pub extern "C" fn heddleplume_frame(out: &mut [f64]) -> u32
 pub extern "C" fn heddleplume_region_write(level: u32, rows: &[i32], out: &mut [u8]) -> u32
     ensures { GivesList level rows.now out.old out.new result }
 {
-    lent_regions::write(level, rows, out)
+    lent::status(lent_regions::write(level, rows, out))
 }
 
 // The full check of a region list: its level, and how many records it has.
@@ -422,7 +421,7 @@ pub extern "C" fn heddleplume_region_write(level: u32, rows: &[i32], out: &mut [
 pub extern "C" fn heddleplume_region_check(list: &[u8], out: &mut [u32]) -> u32
     ensures { Gives 2 (check_reply list.now) out.old out.new result }
 {
-    lent_regions::check(list, out)
+    lent::status(lent_regions::check(list, out))
 }
 
 // The record of a region list with a number: face, i, j, k.
@@ -430,7 +429,7 @@ pub extern "C" fn heddleplume_region_check(list: &[u8], out: &mut [u32]) -> u32
 pub extern "C" fn heddleplume_region_record(list: &[u8], number: u32, out: &mut [u32]) -> u32
     ensures { Gives 4 (read_reply list.now number) out.old out.new result }
 {
-    lent_regions::record(list, number, out)
+    lent::status(lent_regions::record(list, number, out))
 }
 
 // Whether a place is in a region list: 1 yes, 0 no.
@@ -445,5 +444,5 @@ pub extern "C" fn heddleplume_region_has(
 ) -> u32
     ensures { Gives 1 (has_reply list.now (at face i j k)) out.old out.new result }
 {
-    lent_regions::has(list, face, i, j, k, out)
+    lent::status(lent_regions::has(list, face, i, j, k, out))
 }

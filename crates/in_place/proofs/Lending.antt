@@ -3,23 +3,20 @@ use mathlib.Core.Path.{◌≡◌, sym, ap, ◌∙◌}
 use mathlib.Core.Bool.{Bool}
 use mathlib.Core.List.{[], ◌∷◌}
 use Prim.Native.Nat.{ℕ}
+use Rattle.std.specs.Prelude.{Ok, Err, Result}
 use Rattle.reply.specs.declared.Refusal.{Refusal}
-use Rattle.reply.specs.declared.Verdict.{Verdict}
-use Rattle.reply.specs.declared.Verdict.TheVariants.{Refused}
-use Rattle.reply.specs.Replies.{answer, refusal}
-use Rattle.reply.proofs.Entries.{values, answers, refuses, refused, answer_or_refusal, same_refusal}
+use Rattle.reply.specs.Replies.{answer, refusal, Verdict}
+use Rattle.reply.proofs.Entries.{answers, refuses, one_said, told_refusal}
 use Rattle.faceijk.specs.declared.Place.{Place}
 use Rattle.faceijk.specs.declared.Rested.{Rested}
-use Rattle.faceijk.specs.declared.Settled.{Settled}
 use Rattle.faceijk.specs.Places.{on_grid_verdict}
-use Rattle.faceijk.specs.Entries.{said_settled, settle_reply}
+use Rattle.faceijk.specs.Entries.{rested_values, said_settled, settle_reply}
 use Rattle.faceijk.proofs.Unique.{settle_told}
-use Rattle.in_place.specs.declared.Stepped.{Stepped}
 use Rattle.in_place.specs.Lent.{rest_of, stored, place_after, said_stepped, steps_reply}
 
 module _ (p : Place) (l : ℕ) (substrate : Bool) where
   -- a settled place is stored, and its steps are said
-  pub done : {x : Settled} {s : Rested} → x ≡ Settled.Done s → said_settled x ≡ settle_reply p l substrate → (s.place ≡ place_after p l substrate) × (answer (s.steps ∷ []) ≡ steps_reply p l substrate)
+  pub done : {x : Result Rested Refusal} {s : Rested} → x ≡ Ok s → said_settled x ≡ settle_reply p l substrate → (s.place ≡ place_after p l substrate) × (answer (s.steps ∷ []) ≡ steps_reply p l substrate)
   unfolding place_after steps_reply
   done {x} {s} is e =
       let t = settle_told p l substrate is e in
@@ -29,20 +26,17 @@ module _ (p : Place) (l : ℕ) (substrate : Bool) where
       )
 
   -- a refused place stays, and the refusal is said
-  pub kept : {x : Settled} {r : Refusal} → x ≡ Settled.Refused r → said_settled x ≡ settle_reply p l substrate → (p ≡ place_after p l substrate) × (refusal 1 r ≡ steps_reply p l substrate)
+  pub kept : {x : Result Rested Refusal} {r : Refusal} → x ≡ Err r → said_settled x ≡ settle_reply p l substrate → (p ≡ place_after p l substrate) × (refusal 1 r ≡ steps_reply p l substrate)
   unfolding place_after steps_reply
   kept {x} {r} is e =
-      let v = refused 5 (on_grid_verdict p l) r _ (ap said_settled (sym is) ∙ e) in
+      let v = told_refusal 5 rested_values (on_grid_verdict p l) _ is e in
       (ap (λ (v : Verdict). stored v (rest_of p l substrate).place p) (sym v), refuses 1 _ _ _ v)
 
 -- two outcomes that meet one promise coincide
-pub one_stepped : (a b : Stepped) → said_stepped a ≡ said_stepped b → a ≡ b
-one_stepped (Stepped.Done m) (Stepped.Done n) e = let v = values e in ap Stepped.Done (cc)
-one_stepped (Stepped.Done m) (Stepped.Refused r) e = answer_or_refusal 1 _ r e
-one_stepped (Stepped.Refused r) (Stepped.Done m) e = answer_or_refusal 1 _ r (sym e)
-one_stepped (Stepped.Refused r) (Stepped.Refused s) e = ap Stepped.Refused (same_refusal 1 r s e)
+pub one_stepped : (a b : Result ℕ Refusal) → said_stepped a ≡ said_stepped b → a ≡ b
+one_stepped = one_said 1 _ (λ m n v. cc)
 
 -- a refused place stays unchanged, said of any refusal
-pub refused_unchanged : (p : Place) (l : ℕ) (substrate : Bool) (r : Refusal) → on_grid_verdict p l ≡ Refused r → place_after p l substrate ≡ p
+pub refused_unchanged : (p : Place) (l : ℕ) (substrate : Bool) (r : Refusal) → on_grid_verdict p l ≡ Err r → place_after p l substrate ≡ p
 unfolding place_after
 refused_unchanged p l substrate r e = ap (λ (v : Verdict). stored v (rest_of p l substrate).place p) e

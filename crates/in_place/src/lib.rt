@@ -4,52 +4,25 @@
 ghost use Rattle.std.specs.Prelude.{◌≡◌};
 ghost use Rattle.in_place.specs.Lent.{place_after, said_stepped, steps_reply};
 
-use faceijk::{Place, Settled};
+use faceijk::Place;
 use level::GridLevel;
 use reply::Refusal;
 
-// The number of steps over an edge.
-#[derive(Clone, Copy)]
-pub enum Stepped {
-    Done(u64),
-    Refused(Refusal),
-}
-
 // What a lent place holds afterwards, and what is said of it.
-#[derive(Clone, Copy)]
+#[derive(Clone, Copy, Debug, PartialEq, Eq)]
 pub struct Lent {
     pub place: Place,
-    pub answer: Stepped,
-}
-
-// Settling by value, with the same place where it refuses.
-fn settled_or_same(p: Place, level: GridLevel, substrate: bool) -> Lent
-    ensures { (result.place ≡ place_after p level.0 substrate) × (said_stepped result.answer ≡ steps_reply p level.0 substrate) }
-{
-    let settled = p.settle(level, substrate);
-    match settled {
-        Settled::Done(rested) => {
-            let place = rested.place;
-            Lent {
-                place,
-                answer: Stepped::Done(rested.steps),
-            }
-        }
-        Settled::Refused(refusal) => Lent {
-            place: p,
-            answer: Stepped::Refused(refusal),
-        },
-    }
+    pub answer: Result<u64, Refusal>,
 }
 
 // Settling in place: the settled place is stored back, and a refused place stays unchanged.
-pub fn settle_in(p: &mut Place, level: GridLevel, substrate: bool) -> Stepped
+pub fn settle_in(p: &mut Place, level: GridLevel, substrate: bool) -> Result<u64, Refusal>
     ensures { (p.new ≡ place_after p.old level.0 substrate)
         × (said_stepped result ≡ steps_reply p.old level.0 substrate) }
 {
-    let lent = settled_or_same(*p, level, substrate);
-    *p = lent.place;
-    lent.answer
+    let rested = p.settle(level, substrate)?;
+    *p = rested.place;
+    Ok(rested.steps)
 }
 
 // A place of one's own, lent to `settle_in` and had back.
@@ -58,10 +31,7 @@ pub fn settle_lent(p: Place, level: GridLevel, substrate: bool) -> Lent
 {
     let mut q = p;
     let answer = settle_in(&mut q, level, substrate);
-    Lent {
-        place: q,
-        answer: answer,
-    }
+    Lent { place: q, answer }
 }
 
 // The same with plain numbers.

@@ -1,65 +1,37 @@
 // Runs settling by value and in place on the same places, and prints both, a line each.
 #![tactic(auto)]
 
-use faceijk::{Place, Settled};
-use in_place::Stepped;
+use faceijk::Place;
 use level::GridLevel;
+use std::io;
 
-const STDOUT_FILENO: i32 = 1;
-
-fn print_place(p: Place) {
-    io::print_decimal(STDOUT_FILENO, p.face as u64);
-    io::write_all(STDOUT_FILENO, b" ");
-    io::print_decimal(STDOUT_FILENO, p.i as u64);
-    io::write_all(STDOUT_FILENO, b" ");
-    io::print_decimal(STDOUT_FILENO, p.j as u64);
-    io::write_all(STDOUT_FILENO, b" ");
-    io::print_decimal(STDOUT_FILENO, p.k as u64);
-}
-
-fn print_named(name: &[u8], number: u64) {
-    io::write_all(STDOUT_FILENO, name);
-    io::print_decimal(STDOUT_FILENO, number);
-    io::write_all(STDOUT_FILENO, b"\n");
-}
-
-fn print_by_value(p: Place, level: u32, substrate: bool) {
-    io::write_all(STDOUT_FILENO, b"by value: ");
-    let settled = p.settle(GridLevel(level), substrate);
-    match settled {
-        Settled::Done(rested) => {
-            let place = rested.place;
-            print_place(place);
-            print_named(b" steps ", rested.steps);
-        }
-        Settled::Refused(refusal) => print_named(b"refused ", refusal.number() as u64),
+fn print_by_value(rt: &impl Print, p: Place, level: u32, substrate: bool) -> io::Result<()> {
+    match p.settle(GridLevel(level), substrate) {
+        Ok(rested) => println!(rt; "by value: {} steps {}", rested.place, rested.steps),
+        Err(refusal) => println!(rt; "by value: refused {}", refusal.number()),
     }
 }
 
-fn print_in_place(p: Place, level: u32, substrate: bool) {
-    io::write_all(STDOUT_FILENO, b"in place: ");
+fn print_in_place(rt: &impl Print, p: Place, level: u32, substrate: bool) -> io::Result<()> {
     let lent = in_place::settle_at(p.face, p.i, p.j, p.k, level, substrate);
-    let place = lent.place;
-    print_place(place);
-    let answer = lent.answer;
-    match answer {
-        Stepped::Done(steps) => print_named(b" steps ", steps),
-        Stepped::Refused(refusal) => print_named(b" refused ", refusal.number() as u64),
+    match lent.answer {
+        Ok(steps) => println!(rt; "in place: {} steps {steps}", lent.place),
+        Err(refusal) => println!(rt; "in place: {} refused {}", lent.place, refusal.number()),
     }
 }
 
-fn both(p: Place, level: u32, substrate: bool) {
-    print_by_value(p, level, substrate);
-    print_in_place(p, level, substrate);
+fn both(rt: &impl Print, p: Place, level: u32, substrate: bool) -> io::Result<()> {
+    print_by_value(rt, p, level, substrate)?;
+    print_in_place(rt, p, level, substrate)
 }
 
-fn main() {
-    both(Place::new(0, 3, 0, 0), 0, false);
-    both(Place::new(0, 1, 1, 0), 0, false);
-    both(Place::new(0, 7, 2, 0), 0, true);
-    both(Place::new(5, 4, 4, 0), 0, true);
-    both(Place::new(19, 9999, 0, 9999), 0, false);
-    both(Place::new(20, 3, 0, 0), 0, false);
-    both(Place::new(0, 3, 0, 0), 1, false);
-    both(Place::new(0, 1, 1, 1), 0, true);
+fn main(rt: HostRuntime) -> io::Result<()> {
+    both(&rt, Place::new(0, 3, 0, 0), 0, false)?;
+    both(&rt, Place::new(0, 1, 1, 0), 0, false)?;
+    both(&rt, Place::new(0, 7, 2, 0), 0, true)?;
+    both(&rt, Place::new(5, 4, 4, 0), 0, true)?;
+    both(&rt, Place::new(19, 9999, 0, 9999), 0, false)?;
+    both(&rt, Place::new(20, 3, 0, 0), 0, false)?;
+    both(&rt, Place::new(0, 3, 0, 0), 1, false)?;
+    both(&rt, Place::new(0, 1, 1, 1), 0, true)
 }

@@ -4,10 +4,10 @@
 ghost use Rattle.std.specs.Prelude.{◌<◌};
 
 use level::CellLevel;
-use locate::{Batch, Located};
+use locate::Spot;
+use reply::Refusal;
+use std::io;
 use vec3d::Vec3d;
-
-const STDOUT_FILENO: i32 = 1;
 
 const LEVEL: u32 = 9;
 
@@ -30,41 +30,11 @@ const ISABELA: [f64; 3] = [
 
 const SHORT: [f64; 3] = [-0.4214202674581045, -0.6729665838298882, 0.6062358742468724];
 
-fn say(text: &[u8]) {
-    io::write_all(STDOUT_FILENO, text);
-}
-
-// A word and a number.
-fn show(word: &[u8], n: u64) {
-    say(word);
-    io::print_decimal(STDOUT_FILENO, n);
-}
-
-// A number of a row: below zero only minus a row's refusal can stand there.
-fn show_signed(n: i32) {
-    if n >= 0 {
-        show(b" ", n as u64);
-    } else if n == -6 {
-        say(b" -6");
-    } else if n == -7 {
-        say(b" -7");
-    } else {
-        say(b" below zero");
-    }
-}
-
-fn show_located(located: Located) {
+fn show_located(rt: &impl Print, located: Result<Spot, Refusal>) -> io::Result<()> {
     match located {
-        Located::Done(found) => {
-            let p = found.place;
-            show(b"place ", p.face as u64);
-            show(b" ", p.i as u64);
-            show(b" ", p.j as u64);
-            show(b" ", p.k as u64);
-        }
-        Located::Refused(r) => show(b"refused ", r.number() as u64),
+        Ok(found) => println!(rt; "place {}", found.place),
+        Err(refusal) => println!(rt; "refused {}", refusal.number()),
     }
-    say(b"\n");
 }
 
 // The vectors of the incident stand between the right ones.
@@ -103,59 +73,37 @@ fn vectors() -> [f64; 27] {
     ]
 }
 
-fn show_alone(frame: &[f64], input: &[f64; 27], k: usize)
-    requires { k < 9 }
-{
-    show(b"alone ", k as u64);
-    say(b" ");
-    show_located(locate::locate(
-        frame,
-        CellLevel(LEVEL),
-        Vec3d::new(input[3 * k], input[3 * k + 1], input[3 * k + 2]),
-    ));
-}
-
-fn each_alone(frame: &[f64], input: &[f64; 27]) {
-    let mut k = 0usize;
-    while k < 9 {
-        show_alone(frame, input, k);
-        k += 1;
+fn each_alone(rt: &impl Print, frame: &[f64], input: &[f64; 27]) -> io::Result<()> {
+    for k in 0..9 {
+        print!(rt; "alone {k} ")?;
+        let p = vec3d::vec_at(input, 3 * k);
+        show_located(rt, locate::locate(frame, CellLevel(LEVEL), p))?;
     }
+    Ok(())
 }
 
-fn show_row(out: &[i32; 44], k: usize)
-    requires { k < 11 }
-{
-    show(b"row ", k as u64);
-    show_signed(out[4 * k]);
-    show_signed(out[4 * k + 1]);
-    show_signed(out[4 * k + 2]);
-    show_signed(out[4 * k + 3]);
-    say(b"\n");
-}
-
-fn show_rows(out: &[i32; 44]) {
-    let mut k = 0usize;
-    while k < 11 {
-        show_row(out, k);
-        k += 1;
+fn show_rows(rt: &impl Print, out: &[i32; 44]) -> io::Result<()> {
+    for k in 0..11 {
+        println!(rt;
+            "row {k} {} {} {} {}",
+            out[4 * k],
+            out[4 * k + 1],
+            out[4 * k + 2],
+            out[4 * k + 3]
+        )?;
     }
+    Ok(())
 }
 
-fn show_batch(batch: Batch) {
-    match batch {
-        Batch::Done(refused) => show(b"refused rows ", refused as u64),
-        Batch::Refused(refusal) => show(b"batch refused ", refusal.number() as u64),
-    }
-    say(b"\n");
-}
-
-fn main() {
+fn main(rt: HostRuntime) -> io::Result<()> {
     let frame = frame::default_frame();
     let input = vectors();
-    each_alone(&frame, &input);
+    each_alone(&rt, &frame, &input)?;
     // Eleven rows of sevens; the batch begins at row 1, so that rows 0 and 10 stay.
     let mut out = [7i32; 44];
-    show_batch(locate::locate_all(&frame, CellLevel(LEVEL), &input, &mut out, 1));
-    show_rows(&out);
+    match locate::locate_all(&frame, CellLevel(LEVEL), &input, &mut out, 1) {
+        Ok(refused) => println!(rt; "refused rows {refused}")?,
+        Err(refusal) => println!(rt; "batch refused {}", refusal.number())?,
+    }
+    show_rows(&rt, &out)
 }

@@ -4,10 +4,9 @@ use mathlib.Core.Bool.{Bool, true, false}
 use mathlib.Core.List.{List, ◌∷◌}
 use Prim.Native.Nat.{ℕ}
 use native.Mathlib.Omega.{arith}
+use Rattle.std.specs.Prelude.{Ok, Err}
 use Rattle.reply.specs.declared.Refusal.TheVariants.{BadFrame, BadRows}
-use Rattle.reply.specs.declared.Verdict.{Verdict}
-use Rattle.reply.specs.declared.Verdict.TheVariants.{Fine, Refused}
-use Rattle.reply.specs.Replies.{verdict_number, Reason, when, first, reply}
+use Rattle.reply.specs.Replies.{verdict_number, Reason, when, first, reply, Verdict}
 use Rattle.reply.specs.Order.{rank_of, Foremost, Ascending}
 use Rattle.reply.proofs.Foremost.{foremost}
 use Rattle.lent.specs.Lent.{number_for, framed_number}
@@ -20,8 +19,8 @@ pub record ByOrder (rs : List Reason) (k : ℕ) : Type 0 where
 
 -- a reply has the number of its verdict
 pub said : (n : ℕ) (v : Verdict) (vs : List ℕ) → (reply n v vs).number ≡ verdict_number v
-said n Fine vs = refl
-said n (Refused r) vs = refl
+said n (Ok _) vs = refl
+said n (Err r) vs = refl
 
 module _ (n : ℕ) (rs : List Reason) (vs : List ℕ) (follows : Ascending (rank_of BadRows) rs) where
   by_short : (short : Bool) → number_for short (reply n (first rs) vs) ≡ verdict_number (first (when short BadRows ∷ rs))

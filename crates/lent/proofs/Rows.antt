@@ -1,11 +1,11 @@
 -- Rows stored one after the other: the values of the first v elements of a list, then of one more. Assumes nothing.
 use mathlib.Core.Path.{◌≡◌, sym, ap, ◌∙◌}
 use mathlib.Core.List.{List, [], ◌∷◌, ◌++◌, append_assoc}
-use Prim.Native.Nat.{ℕ, suc, ◌+◌, ◌≤◌, ◌<◌}
+use Prim.Native.Nat.{ℕ, ◌+◌, ◌≤◌, ◌<◌}
 use native.Mathlib.Numerals.{add-one}
 use native.Mathlib.Omega.{arith}
 use lib.ListN.{length, get_or, take, drop}
-use lib.Seq.{take-suc, drop-drop}
+use lib.Seq.{take-suc}
 use Rattle.lent.specs.Lent.{stored}
 use Rattle.lent.proofs.Writing.{put_more}
 
@@ -21,6 +21,3 @@ module _ {A B : Type 0} (f : List A → List B) (row : A → List B) (snoc : (xs
 -- what a slice holds whose first value was stored
 pub begun : {A : Type 0} (a : A) (o old : List A) → o ≡ (a ∷ []) ++ drop 1 old → o ≡ a ∷ drop 1 o
 begun a o old e = e ∙ ap (λ (l : List _). a ∷ drop 1 l) (sym e)
-
-pub past : {A : Type 0} (a : A) (o old : List A) (n : ℕ) → o ≡ (a ∷ []) ++ drop 1 old → drop (suc n) o ≡ drop (suc n) old
-past a o old n e = let s : 1 + n ≡ suc n = omega arith in ap (drop (suc n)) e ∙ (drop-drop n 1 old ∙ rw s)

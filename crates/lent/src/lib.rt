@@ -1,39 +1,35 @@
-// What the functions of the C face share: a list of values stored into a lent slice. Public for them; each has seen before that there is room.
+// What the functions of the C face share: a list of values stored into a lent slice, a place as numbers, and what C is told of a refusal.
 #![tactic(auto)]
 
 ghost use Rattle.std.specs.Prelude.{◌≡◌, ◌+◌, ◌≤◌, length};
+ghost use Rattle.reply.specs.Replies.{verdict_number};
+ghost use Rattle.faceijk.specs.Places.{place_values};
 ghost use Rattle.lent.specs.Lent.{stored};
 
-pub fn put(out: &mut [u32], at: usize, from: &[u32])
+use faceijk::Place;
+use reply::Refusal;
+
+// Each caller has seen before that there is room.
+pub fn put<T: Copy>(out: &mut [T], at: usize, from: &[T])
     requires { at + length from.now ≤ length out.old }
     ensures { out.new ≡ stored out.old at from.now }
 {
-    let mut n = 0usize;
-    while n < from.len() {
-        out[at + n] = from[n];
-        n += 1;
-    }
+    out[at..at + from.len()].copy_from_slice(from);
 }
 
-// The same for doubles, and for numbers of 64 bits.
-pub fn put_doubles(out: &mut [f64], at: usize, from: &[f64])
-    requires { at + length from.now ≤ length out.old }
-    ensures { out.new ≡ stored out.old at from.now }
+// A place as the C face writes it: face, i, j, k.
+pub fn numbers(p: Place) -> [u32; 4]
+    ensures { result ≡ place_values p }
 {
-    let mut d = 0usize;
-    while d < from.len() {
-        out[at + d] = from[d];
-        d += 1;
-    }
+    [p.face, p.i, p.j, p.k]
 }
 
-pub fn put_wide(out: &mut [u64], at: usize, from: &[u64])
-    requires { at + length from.now ≤ length out.old }
-    ensures { out.new ≡ stored out.old at from.now }
+// What a C function returns: the refusal's number, 0 for none.
+pub fn status(outcome: Result<(), Refusal>) -> u32
+    ensures { result ≡ verdict_number outcome }
 {
-    let mut w = 0usize;
-    while w < from.len() {
-        out[at + w] = from[w];
-        w += 1;
+    match outcome {
+        Ok(()) => 0,
+        Err(refusal) => refusal.number(),
     }
 }

@@ -4,18 +4,17 @@ use mathlib.Core.Bool.{Bool, true, false}
 use mathlib.Core.List.{List}
 use Prim.Native.Nat.{ℕ}
 use lib.Ieee.{Float}
+use Rattle.std.specs.Prelude.{Err}
 use Rattle.reply.specs.Choice.{pick}
-use Rattle.reply.specs.declared.Verdict.{Verdict}
-use Rattle.reply.specs.declared.Verdict.TheVariants.{Refused}
 use Rattle.reply.specs.declared.Refusal.TheVariants.{BadFrame}
-use Rattle.reply.specs.Replies.{first, reply}
+use Rattle.reply.specs.Replies.{first, reply, Verdict}
 use Rattle.faceijk.specs.declared.Place.{Place}
 use Rattle.vec3d.specs.Frame.{bad_frame}
 use Rattle.boundary.specs.Boundaries.{or_else, boundary_reasons}
 use Rattle.globe.specs.Boundaries.{globe_verdict, globe_points, globe_values, globe_reply}
 use Rattle.lent.specs.Lent.{framed_number}
 
-first_of_lem : (bad : Bool) (v w : Verdict) (vs : List ℕ) → framed_number bad false (reply 61 (or_else (pick bad (Refused BadFrame) v) w) vs) ≡ (reply 61 (or_else (pick bad (Refused BadFrame) v) w) vs).number
+first_of_lem : (bad : Bool) (v w : Verdict) (vs : List ℕ) → framed_number bad false (reply 61 (or_else (pick bad (Err BadFrame) v) w) vs) ≡ (reply 61 (or_else (pick bad (Err BadFrame) v) w) vs).number
 first_of_lem true v w vs = refl
 first_of_lem false v w vs = refl
 

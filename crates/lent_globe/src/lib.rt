@@ -1,82 +1,69 @@
-// What the C face does on the sphere: roots, points and boundaries. Each function returns the refusal's number, 0 for none, and a refusal writes nothing. A bad
-// frame gets 1 even where a slice is too short.
+// What the C face does on the sphere: roots, points and boundaries. A slice with fewer elements than the values gets BadRows, whatever the entry
+// would say, but for a bad frame, which gets BadFrame even there. A refusal writes nothing.
 #![tactic(auto)]
 
-ghost use Rattle.std.specs.Prelude.{◌≡◌, ◌∷◌, ◌++◌, ◌≤◌, length, drop};
+ghost use Rattle.std.specs.Prelude.{◌≡◌, ◌∷◌};
 ghost use Rattle.vec2d.specs.Points.{point};
 ghost use Rattle.vec3d.specs.Frame.{bad_frame};
 ghost use Rattle.root.specs.Root.{root_reply};
 ghost use Rattle.globe.specs.Points.{sphere_reply};
 ghost use Rattle.globe.specs.Boundaries.{sides_of, sphere_points_values, globe_reply};
+ghost use Rattle.reply.specs.Replies.{verdict_number};
 ghost use Rattle.lent.specs.Lent.{Gives, GivesFramed, at, bits_of};
-ghost use Rattle.lent_globe.specs.Globes.{marks_of, vectors_of, GivesGlobe};
+ghost use Rattle.lent_globe.specs.Globes.{marks_of, vectors_in, GivesGlobe};
 
 use faceijk::Place;
-use globe::{Lifted, Outline, SpherePoint};
+use globe::{Outline, SpherePoint};
 use level::{CellLevel, GridLevel};
-use reply::{Refusal, Verdict};
-use root::Rooted;
+use reply::Refusal;
 use vec2d::Vec2d;
 
 // The square root of a number.
-pub fn root(x: f64, out: &mut [f64]) -> u32
-    ensures { Gives 1 (root_reply x) (bits_of out.old) (bits_of out.new) result }
+pub fn root(x: f64, out: &mut [f64]) -> Result<(), Refusal>
+    ensures { Gives 1 (root_reply x) (bits_of out.old) (bits_of out.new) (verdict_number result) }
 {
-    if out.len() < 1 {
-        return Refusal::BadRows.number();
-    }
-    let rooted = root::square_root(x);
-    match rooted {
-        Rooted::Done(r) => {
-            lent::put_doubles(out, 0, &[r]);
-            0
-        }
-        Rooted::Refused(refusal) => refusal.number(),
-    }
+    let values = out.first_chunk_mut::<1>().ok_or(Refusal::BadRows)?;
+    *values = [root::square_root(x)?];
+    Ok(())
 }
 
 // A plane point of a face on the substrate grid of a grid level, as a unit vector: x, y, z.
-pub fn sphere(frame: &[f64], face: u32, level: u32, x: f64, y: f64, out: &mut [f64]) -> u32
-    ensures { GivesFramed (bad_frame frame.now) 3 (sphere_reply frame.now face level (point x y)) (bits_of out.old) (bits_of out.new) result }
+pub fn sphere(
+    frame: &[f64],
+    face: u32,
+    level: u32,
+    x: f64,
+    y: f64,
+    out: &mut [f64],
+) -> Result<(), Refusal>
+    ensures { GivesFramed (bad_frame frame.now) 3 (sphere_reply frame.now face level (point x y)) (bits_of out.old) (bits_of out.new) (verdict_number result) }
 {
-    if out.len() < 3 {
-        return lent_places::frame_or_rows(frame);
-    }
-    let lifted = globe::sphere_point(frame, face, GridLevel(level), Vec2d::new(x, y));
-    match lifted {
-        Lifted::Done(v) => {
-            let values = [v.x, v.y, v.z];
-            lent::put_doubles(out, 0, &values);
-            0
-        }
-        Lifted::Refused(refusal) => refusal.number(),
-    }
+    let Some(values) = out.first_chunk_mut::<3>() else {
+        return Err(lent_places::frame_or_rows(frame));
+    };
+    let v = globe::sphere_point(frame, face, GridLevel(level), Vec2d::new(x, y))?;
+    *values = [v.x, v.y, v.z];
+    Ok(())
 }
 
 // Stores the count, and face and mark of each point.
-fn put_marks(marks: &mut [u32], count: u32, points: [SpherePoint; 12])
-    requires { 25 ≤ length marks.old }
-    ensures { marks.new ≡ marks_of (count ∷ sphere_points_values points) ++ drop 25 marks.old }
+fn put_marks(marks: &mut [u32; 25], count: u32, points: [SpherePoint; 12])
+    ensures { marks.new ≡ marks_of (count ∷ sphere_points_values points) }
 {
     lent::put(marks, 0, &[count]);
-    let mut v = 0usize;
-    while v < 12 {
+    for v in 0..12 {
         let p = points[v];
         lent::put(marks, 2 * v + 1, &[p.face, p.mark]);
-        v += 1;
     }
 }
 
 // Stores x, y and z of each point.
-fn put_vectors(out: &mut [f64], count: u32, points: [SpherePoint; 12])
-    requires { 36 ≤ length out.old }
-    ensures { bits_of out.new ≡ vectors_of (count ∷ sphere_points_values points) ++ drop 36 (bits_of out.old) }
+fn put_vectors(out: &mut [f64; 36], points: [SpherePoint; 12])
+    ensures { bits_of out.new ≡ vectors_in (sphere_points_values points) }
 {
-    let mut v = 0usize;
-    while v < 12 {
+    for v in 0..12 {
         let p = points[v];
-        lent::put_doubles(out, 3 * v, &[p.x, p.y, p.z]);
-        v += 1;
+        lent::put(out, 3 * v, &[p.x, p.y, p.z]);
     }
 }
 
@@ -90,23 +77,19 @@ pub fn border(
     length: u32,
     marks: &mut [u32],
     points: &mut [f64],
-) -> u32
-    ensures { GivesGlobe (bad_frame frame.now) (globe_reply (sides_of outline) frame.now centre level start length) marks.old marks.new (bits_of points.old) (bits_of points.new) result }
+) -> Result<(), Refusal>
+    ensures { GivesGlobe (bad_frame frame.now) (globe_reply (sides_of outline) frame.now centre level start length) marks.old marks.new (bits_of points.old) (bits_of points.new) (verdict_number result) }
 {
-    if (marks.len() < 25) | (points.len() < 36) {
-        return lent_places::frame_or_rows(frame);
-    }
-    let border = globe::sphere_boundary(frame, outline, centre, CellLevel(level), start, length);
-    let verdict = border.refusal;
-    let twelve = border.points;
-    match verdict {
-        Verdict::Fine => {
-            put_marks(marks, border.count, twelve);
-            put_vectors(points, border.count, twelve);
-            0
-        }
-        Verdict::Refused(refusal) => refusal.number(),
-    }
+    let Some(marked) = marks.first_chunk_mut::<25>() else {
+        return Err(lent_places::frame_or_rows(frame));
+    };
+    let Some(pointed) = points.first_chunk_mut::<36>() else {
+        return Err(lent_places::frame_or_rows(frame));
+    };
+    let border = globe::sphere_boundary(frame, outline, centre, CellLevel(level), start, length)?;
+    put_marks(marked, border.count, border.points);
+    put_vectors(pointed, border.points);
+    Ok(())
 }
 
 // The same of a hexagon.
@@ -121,8 +104,8 @@ pub fn hexagon(
     length: u32,
     marks: &mut [u32],
     points: &mut [f64],
-) -> u32
-    ensures { GivesGlobe (bad_frame frame.now) (globe_reply 6 frame.now (at face i j k) level start length) marks.old marks.new (bits_of points.old) (bits_of points.new) result }
+) -> Result<(), Refusal>
+    ensures { GivesGlobe (bad_frame frame.now) (globe_reply 6 frame.now (at face i j k) level start length) marks.old marks.new (bits_of points.old) (bits_of points.new) (verdict_number result) }
 {
     border(
         frame,
@@ -148,8 +131,8 @@ pub fn pentagon(
     length: u32,
     marks: &mut [u32],
     points: &mut [f64],
-) -> u32
-    ensures { GivesGlobe (bad_frame frame.now) (globe_reply 5 frame.now (at face i j k) level start length) marks.old marks.new (bits_of points.old) (bits_of points.new) result }
+) -> Result<(), Refusal>
+    ensures { GivesGlobe (bad_frame frame.now) (globe_reply 5 frame.now (at face i j k) level start length) marks.old marks.new (bits_of points.old) (bits_of points.new) (verdict_number result) }
 {
     border(
         frame,

@@ -1,3 +1,2 @@
--- Laws of `lent_places`: the ways in which its calls end, and that two outcomes of one promise coincide.
-pub mod Ending
+-- Laws of `lent_places`: two outcomes of one promise coincide.
 pub mod Unique

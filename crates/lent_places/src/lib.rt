@@ -1,9 +1,11 @@
-// What the C face does with a lent frame: the nearest face, a plane point, a place, a batch. Each function returns the refusal's number, 0 for none, and
-// a refusal writes nothing. A bad frame gets 1 even where a slice is too short.
+// What the C face does with a lent frame: the nearest face, a plane point, a place, a batch. A slice with fewer elements than the values gets BadRows,
+// whatever the entry would say, but for a bad frame, which gets BadFrame even there. A refusal writes nothing.
 #![tactic(auto)]
 
 ghost use Rattle.std.specs.Prelude.{◌≡◌};
 ghost use Rattle.reply.specs.Choice.{pick};
+ghost use Rattle.reply.specs.declared.Refusal.TheVariants.{BadFrame, BadRows};
+ghost use Rattle.reply.specs.Replies.{verdict_number};
 ghost use Rattle.lent.specs.Lent.{GivesFramed, GivesParts, bits_of};
 ghost use Rattle.vec3d.specs.Frame.{bad_frame};
 ghost use Rattle.vec3d.specs.Nearest.{nearest_reply};
@@ -12,37 +14,41 @@ ghost use Rattle.locate.specs.Locating.{locate_reply};
 ghost use Rattle.lent_places.specs.Places.{vec, GivesBatch};
 
 use level::CellLevel;
-use locate::{Batch, Located};
 use reply::Refusal;
-use vec2d::Pointed;
-use vec3d::{NearestFace, Vec3d};
+use vec3d::Vec3d;
 
 // What a slice that is too short gets. Public for the calls of the sphere.
-pub fn frame_or_rows(frame: &[f64]) -> u32
-    ensures { result ≡ pick (bad_frame frame.now) 1 2 }
+pub fn frame_or_rows(frame: &[f64]) -> Refusal
+    ensures { result ≡ pick (bad_frame frame.now) BadFrame BadRows }
 {
     if vec3d::bad_frame(frame) {
-        return Refusal::BadFrame.number();
+        Refusal::BadFrame
+    } else {
+        Refusal::BadRows
     }
-    Refusal::BadRows.number()
 }
 
 // The face nearest to a unit vector, and its squared distance.
-pub fn nearest(frame: &[f64], x: f64, y: f64, z: f64, face: &mut [u32], distance: &mut [f64]) -> u32
-    ensures { GivesParts (bad_frame frame.now) 1 1 (nearest_reply frame.now (vec x y z)) face.old face.new (bits_of distance.old) (bits_of distance.new) result }
+pub fn nearest(
+    frame: &[f64],
+    x: f64,
+    y: f64,
+    z: f64,
+    face: &mut [u32],
+    distance: &mut [f64],
+) -> Result<(), Refusal>
+    ensures { GivesParts (bad_frame frame.now) 1 1 (nearest_reply frame.now (vec x y z)) face.old face.new (bits_of distance.old) (bits_of distance.new) (verdict_number result) }
 {
-    if (face.len() < 1) | (distance.len() < 1) {
-        return frame_or_rows(frame);
-    }
-    let nearest = vec3d::nearest_face(frame, Vec3d::new(x, y, z));
-    match nearest {
-        NearestFace::Done(n) => {
-            lent::put(face, 0, &[n.face]);
-            lent::put_doubles(distance, 0, &[n.distance]);
-            0
-        }
-        NearestFace::Refused(refusal) => refusal.number(),
-    }
+    let Some(nearest) = face.first_chunk_mut::<1>() else {
+        return Err(frame_or_rows(frame));
+    };
+    let Some(squared) = distance.first_chunk_mut::<1>() else {
+        return Err(frame_or_rows(frame));
+    };
+    let n = vec3d::nearest_face(frame, Vec3d::new(x, y, z))?;
+    *nearest = [n.face];
+    *squared = [n.distance];
+    Ok(())
 }
 
 // The plane point of a unit vector on a named face at a cell level: x, y.
@@ -54,21 +60,15 @@ pub fn plane_point(
     y: f64,
     z: f64,
     out: &mut [f64],
-) -> u32
-    ensures { GivesFramed (bad_frame frame.now) 2 (plane_reply frame.now face level (vec x y z)) (bits_of out.old) (bits_of out.new) result }
+) -> Result<(), Refusal>
+    ensures { GivesFramed (bad_frame frame.now) 2 (plane_reply frame.now face level (vec x y z)) (bits_of out.old) (bits_of out.new) (verdict_number result) }
 {
-    if out.len() < 2 {
-        return frame_or_rows(frame);
-    }
-    let pointed = face_projection::plane_point(frame, face, CellLevel(level), Vec3d::new(x, y, z));
-    match pointed {
-        Pointed::Done(v) => {
-            let values = [v.x, v.y];
-            lent::put_doubles(out, 0, &values);
-            0
-        }
-        Pointed::Refused(refusal) => refusal.number(),
-    }
+    let Some(values) = out.first_chunk_mut::<2>() else {
+        return Err(frame_or_rows(frame));
+    };
+    let v = face_projection::plane_point(frame, face, CellLevel(level), Vec3d::new(x, y, z))?;
+    *values = [v.x, v.y];
+    Ok(())
 }
 
 // The place of a unit vector at a cell level: face, i, j, k; and the leftovers r1, r2.
@@ -80,23 +80,20 @@ pub fn place(
     level: u32,
     out: &mut [u32],
     left: &mut [f64],
-) -> u32
-    ensures { GivesParts (bad_frame frame.now) 4 2 (locate_reply frame.now level (vec x y z)) out.old out.new (bits_of left.old) (bits_of left.new) result }
+) -> Result<(), Refusal>
+    ensures { GivesParts (bad_frame frame.now) 4 2 (locate_reply frame.now level (vec x y z)) out.old out.new (bits_of left.old) (bits_of left.new) (verdict_number result) }
 {
-    if (out.len() < 4) | (left.len() < 2) {
-        return frame_or_rows(frame);
-    }
-    let located = locate::locate(frame, CellLevel(level), Vec3d::new(x, y, z));
-    match located {
-        Located::Done(found) => {
-            let p = found.place;
-            let l = found.left;
-            lent::put(out, 0, &[p.face, p.i, p.j, p.k]);
-            lent::put_doubles(left, 0, &[l.r1, l.r2]);
-            0
-        }
-        Located::Refused(refusal) => refusal.number(),
-    }
+    let Some(place) = out.first_chunk_mut::<4>() else {
+        return Err(frame_or_rows(frame));
+    };
+    let Some(leftovers) = left.first_chunk_mut::<2>() else {
+        return Err(frame_or_rows(frame));
+    };
+    let found = locate::locate(frame, CellLevel(level), Vec3d::new(x, y, z))?;
+    let l = found.left;
+    *place = lent::numbers(found.place);
+    *leftovers = [l.r1, l.r2];
+    Ok(())
 }
 
 // The places of a batch into lent rows, and how many were refused.
@@ -107,18 +104,13 @@ pub fn batch(
     out: &mut [i32],
     first: usize,
     refused: &mut [u64],
-) -> u32
-    ensures { GivesBatch frame.now level input.now first out.old out.new refused.old refused.new result }
+) -> Result<(), Refusal>
+    ensures { GivesBatch frame.now level input.now first out.old out.new refused.old refused.new (verdict_number result) }
 {
-    if refused.len() < 1 {
-        return frame_or_rows(frame);
-    }
-    let batch = locate::locate_all(frame, CellLevel(level), input, out, first);
-    match batch {
-        Batch::Done(n) => {
-            lent::put_wide(refused, 0, &[n as u64]);
-            0
-        }
-        Batch::Refused(refusal) => refusal.number(),
-    }
+    let Some(count) = refused.first_chunk_mut::<1>() else {
+        return Err(frame_or_rows(frame));
+    };
+    let n = locate::locate_all(frame, CellLevel(level), input, out, first)?;
+    *count = [n as u64];
+    Ok(())
 }

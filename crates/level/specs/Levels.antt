@@ -1,12 +1,11 @@
 -- Levels of document 01: which are taken, the raise from cell level to grid level, unit scale and limit.
-use Rattle.std.specs.Prelude.{◌≡◌, Bool, ◌||◌, List, [], ◌∷◌, ℕ, ◌+◌, ◌*◌, ◌/◌, ◌%◌, ◌^◌, ◌<◌, ltb, eqb}
+use Rattle.level.specs.declared.GridLevel.{GridLevel}
+use Rattle.reply.specs.declared.Refusal.{Refusal}
+use Rattle.std.specs.Prelude.{◌≡◌, Bool, ◌||◌, List, [], ◌∷◌, ℕ, ◌+◌, ◌*◌, ◌/◌, ◌%◌, ◌^◌, ◌<◌, ltb, eqb, Result}
 use Rattle.reply.specs.Choice.{pick}
-use Rattle.reply.specs.declared.Verdict.{Verdict}
 use Rattle.reply.specs.declared.Refusal.TheVariants.{BadLevel}
-use Rattle.reply.specs.Replies.{Reply, when, first, answer, refusal, reply}
-use Rattle.level.specs.declared.Raised.{Raised}
+use Rattle.reply.specs.Replies.{Reply, when, first, reply, Verdict, said, bit}
 use Rattle.level.specs.declared.Grid.{Grid}
-use Rattle.level.specs.declared.Gridded.{Gridded}
 
 -- BadLevel: cell level above 15; grid level odd or above 16
 abbrev pub bad_cell : ℕ → Bool
@@ -45,22 +44,17 @@ pub record Sound (g : Grid) : Type 0 where
   pub small : g.unit < 33554432
 
 -- the entries, in the paper's numbers
-abbrev pub said_raised : Raised → Reply
-said_raised (Raised.Done g) = answer (g.0 ∷ [])
-said_raised (Raised.Refused r) = refusal 1 r
+abbrev pub said_raised : Result GridLevel Refusal → Reply
+said_raised = said 1 (λ g. g.0 ∷ [])
 
 abbrev pub raise_reply : ℕ → Reply
 raise_reply l = reply 1 (cell_verdict l) (raised_of l ∷ [])
 
-abbrev pub bit : Bool → ℕ
-bit b = pick b 1 0
-
 abbrev pub grid_values : Grid → List ℕ
 grid_values g = g.unit ∷ g.limit ∷ bit g.substrate ∷ []
 
-abbrev pub said_gridded : Gridded → Reply
-said_gridded (Gridded.Done g) = answer (grid_values g)
-said_gridded (Gridded.Refused r) = refusal 3 r
+abbrev pub said_gridded : Result Grid Refusal → Reply
+said_gridded = said 3 grid_values
 
 abbrev pub grid_reply : ℕ → Bool → Reply
 grid_reply l substrate = reply 3 (grid_verdict l) (grid_values (grid_of l substrate))

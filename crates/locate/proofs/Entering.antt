@@ -5,6 +5,7 @@ use mathlib.Core.List.{List, ◌∷◌}
 use Prim.Native.Nat.{ℕ, ◌<◌}
 use native.Mathlib.Omega.{arith}
 use lib.Ieee.{Float}
+use Rattle.std.specs.Prelude.{Ok, Err}
 use Rattle.reply.specs.Choice.{pick}
 use Rattle.reply.specs.declared.Refusal.{Refusal}
 use Rattle.reply.specs.declared.Refusal.TheVariants.{Behind}
@@ -12,7 +13,6 @@ use Rattle.reply.specs.Replies.{first, answer, refusal, reply}
 use Rattle.reply.proofs.Entries.{answers, refuses, answered, refused}
 use Rattle.vec2d.specs.declared.Vec2d.{Vec2d}
 use Rattle.vec2d.specs.declared.Found.{Found}
-use Rattle.vec2d.specs.declared.Pointed.TheVariants.{Done, Refused}
 use Rattle.vec2d.specs.Points.{is_point}
 use Rattle.vec2d.specs.Rounding.{round_verdict, round_reply, nearest_of, leftovers_of, found_of, found_values}
 use Rattle.vec3d.specs.declared.Vec3d.{Vec3d}
@@ -37,19 +37,19 @@ round_refuses f r q e = refuses 6 (round_verdict q) _ r (refused 5 (round_verdic
 
 -- what the projection gives says whether the vector is behind the face
 module _ (a : FaceAxes) (l : ℕ) (p : Vec3d) where
-  pub in_front : (q : Vec2d) → projected_of a l p ≡ Done q → (behind a p ≡ false) × (q ≡ point_of a l p)
+  pub in_front : (q : Vec2d) → projected_of a l p ≡ Ok q → (behind a p ≡ false) × (q ≡ point_of a l p)
   unfolding projected_of
   in_front q e = go (behind a p) e
     where
-      go : (b : Bool) → pick b (Refused Behind) (Done (point_of a l p)) ≡ Done q → (b ≡ false) × (q ≡ point_of a l p)
+      go : (b : Bool) → pick b (Err Behind) (Ok (point_of a l p)) ≡ Ok q → (b ≡ false) × (q ≡ point_of a l p)
       go true e = let z : ◌≡◌ {A = ℕ} 0 1 = cc in absurd (omega arith)
       go false e = (refl, cc)
 
-  pub is_behind : (r : Refusal) → projected_of a l p ≡ Refused r → (behind a p ≡ true) × (r ≡ Behind)
+  pub is_behind : (r : Refusal) → projected_of a l p ≡ Err r → (behind a p ≡ true) × (r ≡ Behind)
   unfolding projected_of
   is_behind r e = go (behind a p) e
     where
-      go : (b : Bool) → pick b (Refused Behind) (Done (point_of a l p)) ≡ Refused r → (b ≡ true) × (r ≡ Behind)
+      go : (b : Bool) → pick b (Err Behind) (Ok (point_of a l p)) ≡ Err r → (b ≡ true) × (r ≡ Behind)
       go true e = (refl, cc)
       go false e = let z : ◌≡◌ {A = ℕ} 0 1 = cc in absurd (omega arith)
 

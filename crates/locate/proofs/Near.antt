@@ -6,12 +6,11 @@ use Prim.Native.Nat.{ℕ}
 use native.Mathlib.Omega.{arith}
 use lib.Ieee.{Float}
 use borrow.Author.Tests.{ltb-false}
+use Rattle.std.specs.Prelude.{Err}
 use Rattle.reply.specs.Choice.{pick}
 use Rattle.reply.specs.declared.Refusal.{Refusal}
 use Rattle.reply.specs.declared.Refusal.TheVariants.{BadFrame, BadLevel, BadNumber, OffSphere, Behind, TooFar}
-use Rattle.reply.specs.declared.Verdict.{Verdict}
-use Rattle.reply.specs.declared.Verdict.TheVariants.{Refused}
-use Rattle.reply.specs.Replies.{number_of}
+use Rattle.reply.specs.Replies.{number_of, Verdict}
 use Rattle.reply.proofs.Entries.{found}
 use Rattle.level.specs.Levels.{bad_cell}
 use Rattle.vec2d.specs.Rounding.{too_far}
@@ -24,12 +23,12 @@ use Rattle.face_projection.proofs.Finite.{point_near}
 use Rattle.locate.specs.Locating.{near_face, near_axes, near_point, locate_verdict}
 
 -- a verdict that is another refusal than the first reason's: the reason does not apply, and the others decide
-other : (b : Bool) (r t : Refusal) (v : Verdict) → (number_of r ≡ number_of t → ⊥) → pick b (Refused r) v ≡ Refused t → (b ≡ false) × (v ≡ Refused t)
+other : (b : Bool) (r t : Refusal) (v : Verdict) → (number_of r ≡ number_of t → ⊥) → pick b (Err r) v ≡ Err t → (b ≡ false) × (v ≡ Err t)
 other true r t v apart e = let q : r ≡ t = cc in absurd (apart (λ n. number_of (q n)))
 other false r t v apart e = (refl, e)
 
 -- No frame, level and vector are refused with TooFar.
-pub never_nine : (s : List Float) (l : ℕ) (p : Vec3d) → locate_verdict s l p ≡ Refused TooFar → ⊥
+pub never_nine : (s : List Float) (l : ℕ) (p : Vec3d) → locate_verdict s l p ≡ Err TooFar → ⊥
 never_nine s l p e =
     let f = other (bad_frame s) BadFrame TooFar _ (λ z. omega arith) e in
     let c = other (bad_cell l) BadLevel TooFar _ (λ z. omega arith) f.1 in

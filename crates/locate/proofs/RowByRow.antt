@@ -8,8 +8,8 @@ use lib.IntN.{ℤ}
 use lib.ListN.{length, take, drop, take-append-drop, length-take, length-drop}
 use lib.Seq.{take_at, drop_at, drop-drop, drop-append-le, take-append-le}
 use lib.Ieee.{Float}
-use Rattle.reply.specs.declared.Verdict.{Verdict}
-use Rattle.reply.specs.declared.Verdict.TheVariants.{Fine, Refused}
+use Rattle.reply.specs.Replies.{Verdict, fine}
+use Rattle.std.specs.Prelude.{Ok, Err}
 use Rattle.vec3d.specs.declared.Vec3d.{Vec3d}
 use Rattle.vec3d.specs.Frame.{vec_at}
 use Rattle.locate.specs.Locating.{Passed, row_reply, locate_reply}
@@ -22,7 +22,7 @@ use Rattle.locate.proofs.Writing.{row_length, Ready, ready}
 pub same_reply : (s : List Float) (l : ℕ) (p : Vec3d) → Passed s l → row_reply s l p ≡ locate_reply s l p
 same_reply s l p h = rw (h.frame, le-ltb 15 l h.level)
 
-module _ (s : List Float) (l : ℕ) (input : List Float) (out : List ℤ) (start : ℕ) (fine : batch_verdict s l input out start ≡ Fine) where
+module _ (s : List Float) (l : ℕ) (input : List Float) (out : List ℤ) (start : ℕ) (clear : batch_verdict s l input out start ≡ fine) where
   abbrev n : ℕ
   n = length input / 3
 
@@ -30,14 +30,14 @@ module _ (s : List Float) (l : ℕ) (input : List Float) (out : List ℤ) (start
   new = batch_rows s l input out start
 
   able : Ready s l (length input) (length out) start
-  able = ready s l (length input) (length out) start fine
+  able = ready s l (length input) (length out) start clear
 
   rows : List ℤ
   rows = rows_to (row_at s l input) n
 
   written : new ≡ take (4 * start) out ++ (rows ++ drop (4 * start + 4 * n) out)
   unfolding rows
-  written = ap (λ (v : Verdict). rows_by v (between 4 (row_at s l input) start n out) out) fine
+  written = ap (λ (v : Verdict). rows_by v (between 4 (row_at s l input) start n out) out) clear
 
   before_long : length (take (4 * start) out) ≡ 4 * start
   before_long = simp length-take (omega (arith, able.room))
@@ -81,10 +81,10 @@ unfolding rows_to
 none_written s l out start = go (batch_verdict s l [] out start)
   where
     go : (v : Verdict) → rows_by v (between 4 (row_at s l []) start 0 out) out ≡ out
-    go Fine =
+    go (Ok _) =
         let end : 4 * start + 4 * 0 ≡ 4 * start = omega arith in
         ap (λ (k : ℕ). take (4 * start) out ++ drop k out) end ∙ take-append-drop (4 * start) out
-    go (Refused r) = refl
+    go (Err r) = refl
 
 -- How many rows the batch counts as refused is how many the place entry refuses.
 pub batch_count : (s : List Float) (l : ℕ) (input : List Float) (n : ℕ) → Passed s l

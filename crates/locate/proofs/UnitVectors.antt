@@ -5,10 +5,10 @@ use mathlib.Core.List.{List}
 use Prim.Native.Nat.{ℕ}
 use native.Mathlib.Omega.{arith}
 use lib.Ieee.{Float}
+use Rattle.std.specs.Prelude.{Err}
 use Rattle.reply.specs.Choice.{pick}
 use Rattle.reply.specs.declared.Refusal.TheVariants.{BadFrame, BadLevel, BadNumber, OffSphere, Behind, TooFar}
-use Rattle.reply.specs.declared.Verdict.TheVariants.{Fine, Refused}
-use Rattle.reply.specs.Replies.{verdict_number}
+use Rattle.reply.specs.Replies.{verdict_number, fine}
 use Rattle.reply.proofs.Entries.{passed}
 use Rattle.level.specs.Levels.{bad_cell}
 use Rattle.vec2d.specs.Rounding.{too_far}
@@ -19,7 +19,7 @@ use Rattle.face_projection.specs.Projection.{behind}
 use Rattle.locate.specs.Locating.{near_axes, near_point, locate_verdict}
 
 -- what is left without the vector's own reasons
-others : (f c b t : Bool) (n : ℕ) → verdict_number (pick f (Refused BadFrame) (pick c (Refused BadLevel) (pick b (Refused Behind) (pick t (Refused TooFar) Fine)))) ≡ n
+others : (f c b t : Bool) (n : ℕ) → verdict_number (pick f (Err BadFrame) (pick c (Err BadLevel) (pick b (Err Behind) (pick t (Err TooFar) fine)))) ≡ n
     → (n ≡ 6 → ⊥) × (n ≡ 7 → ⊥)
 others true c b t n e = (λ z. omega arith, λ z. omega arith)
 others false true b t n e = (λ z. omega arith, λ z. omega arith)
@@ -27,7 +27,7 @@ others false false true t n e = (λ z. omega arith, λ z. omega arith)
 others false false false true n e = (λ z. omega arith, λ z. omega arith)
 others false false false false n e = (λ z. omega arith, λ z. omega arith)
 
-pub never_six_or_seven : (s : List Float) (l : ℕ) (p : Vec3d) → vector_verdict p ≡ Fine
+pub never_six_or_seven : (s : List Float) (l : ℕ) (p : Vec3d) → vector_verdict p ≡ fine
     → (verdict_number (locate_verdict s l p) ≡ 6 → ⊥) × (verdict_number (locate_verdict s l p) ≡ 7 → ⊥)
 never_six_or_seven s l p e =
     let n = passed (bad_number p) BadNumber _ e in

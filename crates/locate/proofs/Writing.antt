@@ -9,11 +9,10 @@ use lib.IntN.{ℤ}
 use lib.ListN.{length}
 use lib.Ieee.{Float}
 use borrow.Author.Tests.{ltb-false}
+use Rattle.std.specs.Prelude.{Ok, Err}
 use Rattle.reply.specs.declared.Refusal.{Refusal}
 use Rattle.reply.specs.declared.Refusal.TheVariants.{BadFrame, BadRows, BadLevel}
-use Rattle.reply.specs.declared.Verdict.{Verdict}
-use Rattle.reply.specs.declared.Verdict.TheVariants.{Fine, Refused}
-use Rattle.reply.specs.Replies.{first, answer, refusal, reply}
+use Rattle.reply.specs.Replies.{first, answer, refusal, reply, Verdict, fine}
 use Rattle.reply.proofs.Entries.{passed, neither}
 use Rattle.level.specs.Levels.{bad_cell}
 use Rattle.vec3d.specs.Frame.{vec_at, bad_frame}
@@ -24,8 +23,8 @@ use Rattle.locate.specs.Batch.{row_of, row_at, refused_at, bad_rows, reasons_for
 use Rattle.locate.proofs.Signed.{number_some}
 
 reply_row : (v : Verdict) (t : Spot) → length (row_of (reply 6 v (spot_values t))) ≡ 4
-reply_row Fine t = refl
-reply_row (Refused r) t = rw (number_some r)
+reply_row (Ok _) t = refl
+reply_row (Err r) t = rw (number_some r)
 
 pub row_length : (s : List Float) (l : ℕ) (input : List Float) (k : ℕ) → length (row_at s l input k) ≡ 4
 row_length s l input k = reply_row (row_verdict s l (vec_at input (3 * k))) (spot_of s l (vec_at input (3 * k)))
@@ -41,11 +40,11 @@ pub record Ready (s : List Float) (l ins outs start : ℕ) : Type 0 where
   pub passed : Passed s l
   pub room : 4 * start + 4 * (ins / 3) ≤ outs
 
-pub ready : (s : List Float) (l ins outs start : ℕ) → first (reasons_for s l ins outs start) ≡ Fine → Ready s l ins outs start
+pub ready : (s : List Float) (l ins outs start : ℕ) → first (reasons_for s l ins outs start) ≡ fine → Ready s l ins outs start
 ready s l ins outs start e =
     let f = passed (bad_frame s) BadFrame _ e in
     let r = passed (bad_rows ins outs start) BadRows _ f.1 in
-    let c = passed (bad_cell l) BadLevel Fine r.1 in
+    let c = passed (bad_cell l) BadLevel fine r.1 in
     record { passed = record { frame = f.0; level = ltb-false 15 l c.0 }; room = rows_fit ins outs start r.0 }
 
 module _ (s : List Float) (l : ℕ) (input : List Float) (out : List ℤ) (start : ℕ) where
@@ -60,9 +59,9 @@ module _ (s : List Float) (l : ℕ) (input : List Float) (out : List ℤ) (start
       → record { said = reply 1 v counted; rows = rows_by v filled out } ≡ batch_outcome s l input out start
   outcome_by v e = λ k. let w = sym e k in record { said = reply 1 w counted; rows = rows_by w filled out }
 
-  pub batch_answers : (n : ℕ) (new : List ℤ) → batch_verdict s l input out start ≡ Fine → n ≡ count_to (refused_at s l input) (length input / 3) → new ≡ filled
+  pub batch_answers : (n : ℕ) (new : List ℤ) → batch_verdict s l input out start ≡ fine → n ≡ count_to (refused_at s l input) (length input / 3) → new ≡ filled
       → record { said = answer (n ∷ []); rows = new } ≡ batch_outcome s l input out start
-  batch_answers n new e p q = (λ k. record { said = answer (p k ∷ []); rows = q k }) ∙ outcome_by Fine e
+  batch_answers n new e p q = (λ k. record { said = answer (p k ∷ []); rows = q k }) ∙ outcome_by fine e
 
-  pub batch_refuses : (r : Refusal) → batch_verdict s l input out start ≡ Refused r → record { said = refusal 1 r; rows = out } ≡ batch_outcome s l input out start
-  batch_refuses r e = outcome_by (Refused r) e
+  pub batch_refuses : (r : Refusal) → batch_verdict s l input out start ≡ Err r → record { said = refusal 1 r; rows = out } ≡ batch_outcome s l input out start
+  batch_refuses r e = outcome_by (Err r) e

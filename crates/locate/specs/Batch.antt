@@ -1,19 +1,16 @@
 -- A batch. Document 01: "rows of four 32-bit signed numbers, beginning at a row that the caller names: face, i, j, k; or, for a refused row,
 -- minus the refusal, 0, 0, 0. It returns how many of its rows were refused. All other rows keep their contents."
-use Rattle.std.specs.Prelude.{◌≡◌, Bool, not, ◌||◌, List, [], ◌∷◌, ℕ, ◌+◌, ◌*◌, ◌/◌, ◌%◌, ◌<◌, ℤ, pos, neg_ℤ, ltb, eqb, length, take, Float}
+use Rattle.locate.specs.declared.Spot.{Spot}
+use Rattle.reply.specs.declared.Refusal.{Refusal}
+use Rattle.std.specs.Prelude.{◌≡◌, Bool, not, ◌||◌, List, [], ◌∷◌, ℕ, ◌+◌, ◌*◌, ◌/◌, ◌%◌, ◌<◌, ℤ, pos, neg_ℤ, ltb, eqb, length, take, Float, Ok, Err, Result}
 use Rattle.reply.specs.Choice.{pick}
-use Rattle.reply.specs.declared.Verdict.{Verdict}
-use Rattle.reply.specs.declared.Verdict.TheVariants.{Fine, Refused as Found}
 use Rattle.reply.specs.declared.Refusal.TheVariants.{BadFrame, BadRows, BadLevel}
-use Rattle.reply.specs.Replies.{Reply, Reason, when, first, answer, refusal, reply, zeros}
+use Rattle.reply.specs.Replies.{Reply, Reason, when, first, reply, zeros, Verdict, fine, said}
 use Rattle.level.specs.Levels.{bad_cell}
 use Rattle.vec3d.specs.Vectors.{vector_verdict}
 use Rattle.vec3d.specs.Frame.{vec_at, bad_frame}
 use Rattle.faceijk.specs.Places.{Okay}
 use Rattle.locate.specs.declared.Row.{Row}
-use Rattle.locate.specs.declared.Located.{Located}
-use Rattle.locate.specs.declared.Located.TheVariants.{Done, Refused}
-use Rattle.locate.specs.declared.Batch.{Batch}
 use Rattle.locate.specs.Locating.{near_face, row_reply}
 use Rattle.words.specs.Rows.{count_to, between}
 
@@ -40,7 +37,7 @@ refused_at s l input k = is_refused (row_reply s l (vec_at input (3 * k)))
 
 -- what the code finds one row early: of a vector k of the input that passes, its nearest face
 abbrev pub Ahead : List Float → List Float → ℕ → ℕ → Type 0
-Ahead s input k face = k < length input / 3 → vector_verdict (vec_at input (3 * k)) ≡ Fine → face ≡ near_face s (vec_at input (3 * k))
+Ahead s input k face = k < length input / 3 → vector_verdict (vec_at input (3 * k)) ≡ fine → face ≡ near_face s (vec_at input (3 * k))
 
 -- BadRows: input not a multiple of 3, output not of 4, or first row + n beyond the rows
 unfoldable pub bad_rows : ℕ → ℕ → ℕ → Bool
@@ -56,9 +53,8 @@ abbrev pub batch_verdict : List Float → ℕ → List Float → List ℤ → �
 batch_verdict s l input out start = first (batch_reasons s l input out start)
 
 -- the entry, in the paper's numbers: how many rows were refused
-abbrev pub said_batch : Batch → Reply
-said_batch (Batch.Done n) = answer (n ∷ [])
-said_batch (Batch.Refused r) = refusal 1 r
+abbrev pub said_batch : Result ℕ Refusal → Reply
+said_batch = said 1 (λ n. n ∷ [])
 
 abbrev pub batch_reply : List Float → ℕ → List Float → List ℤ → ℕ → Reply
 batch_reply s l input out start =
@@ -66,8 +62,8 @@ batch_reply s l input out start =
 
 -- what the lent rows then hold: a whole batch that is refused writes nothing
 abbrev pub rows_by : Verdict → List ℤ → List ℤ → List ℤ
-rows_by Fine new old = new
-rows_by (Found r) new old = old
+rows_by (Ok _) new old = new
+rows_by (Err r) new old = old
 
 abbrev pub batch_rows : List Float → ℕ → List Float → List ℤ → ℕ → List ℤ
 batch_rows s l input out start =
@@ -81,6 +77,6 @@ abbrev pub batch_outcome : List Float → ℕ → List Float → List ℤ → �
 batch_outcome s l input out start = record { said = batch_reply s l input out start; rows = batch_rows s l input out start }
 
 -- a place that may be given out can be written as signed numbers
-abbrev pub Given : Located → Type 0
-Given (Done t) = Okay t.place
-Given (Refused r) = Unit
+abbrev pub Given : Result Spot Refusal → Type 0
+Given (Ok t) = Okay t.place
+Given (Err r) = Unit

@@ -1,9 +1,8 @@
 -- The place of a unit vector at a cell level, with the leftovers of its rounding. Document 01, "Place", on the nearest face; then rounding.
-use Rattle.std.specs.Prelude.{◌≡◌, false, List, [], ◌∷◌, ◌++◌, ℕ, ◌≤◌, Float}
-use Rattle.reply.specs.declared.Verdict.{Verdict}
-use Rattle.reply.specs.declared.Verdict.TheVariants.{Fine}
+use Rattle.reply.specs.declared.Refusal.{Refusal}
+use Rattle.std.specs.Prelude.{◌≡◌, false, List, [], ◌∷◌, ◌++◌, ℕ, ◌≤◌, Float, Result}
 use Rattle.reply.specs.declared.Refusal.TheVariants.{BadFrame, BadLevel, BadNumber, OffSphere, Behind, TooFar}
-use Rattle.reply.specs.Replies.{Reply, Reason, when, first, answer, refusal, reply}
+use Rattle.reply.specs.Replies.{Reply, Reason, when, first, reply, Verdict, fine, said}
 use Rattle.level.specs.Levels.{bad_cell}
 use Rattle.vec2d.specs.declared.Vec2d.{Vec2d}
 use Rattle.vec2d.specs.declared.Leftovers.{Leftovers}
@@ -17,8 +16,6 @@ use Rattle.face_projection.specs.Projection.{behind, point_of}
 use Rattle.faceijk.specs.declared.Place.{Place}
 use Rattle.faceijk.specs.Places.{place, place_values}
 use Rattle.locate.specs.declared.Spot.{Spot}
-use Rattle.locate.specs.declared.Located.{Located}
-use Rattle.locate.specs.declared.Located.TheVariants.{Done, Refused}
 
 abbrev pub near_face : List Float → Vec3d → ℕ
 near_face s p = (nearest_to s p 19).face
@@ -61,9 +58,8 @@ abbrev pub locate_verdict : List Float → ℕ → Vec3d → Verdict
 locate_verdict s l p = first (locate_reasons s l p)
 
 -- the entry, in the paper's numbers, and what becomes of a row's vector where frame and level have passed
-abbrev pub said_located : Located → Reply
-said_located (Done t) = answer (spot_values t)
-said_located (Refused r) = refusal 6 r
+abbrev pub said_located : Result Spot Refusal → Reply
+said_located = said 6 spot_values
 
 abbrev pub row_reply : List Float → ℕ → Vec3d → Reply
 row_reply s l p = reply 6 (row_verdict s l p) (spot_values (spot_of s l p))
@@ -83,4 +79,4 @@ pub record Passed (s : List Float) (l : ℕ) : Type 0 where
 pub record Entered (s : List Float) (l : ℕ) (p : Vec3d) : Type 0 where
   pub frame : bad_frame s ≡ false
   pub level : l ≤ 15
-  pub vector : vector_verdict p ≡ Fine
+  pub vector : vector_verdict p ≡ fine

@@ -4,43 +4,30 @@
 ghost use Rattle.std.specs.Prelude.{◌≡◌, false, ◌+◌, ◌*◌, ◌/◌, ◌≤◌, length};
 ghost use Rattle.std.proofs.lemmas.List.Edits.{sets};
 ghost use Rattle.reply.specs.Replies.{first, refusal, reply};
-ghost use Rattle.reply.specs.declared.Verdict.TheVariants.{Fine};
+ghost use Rattle.reply.specs.Replies.{fine};
 ghost use Rattle.vec3d.specs.Vectors.{vector_verdict};
 ghost use Rattle.vec3d.specs.Frame.{bad_frame};
 ghost use Rattle.vec2d.specs.Rounding.{round_verdict, nearest_of, leftovers_of};
 ghost use Rattle.faceijk.specs.Places.{place, place_values, Okay};
 ghost use Rattle.locate.specs.Locating.{near_face, Passed, Entered, spot, spot_of, spot_values, front_reasons, said_located, row_reply, locate_reply};
-ghost use Rattle.words.specs.Rows.{one_if, count_to, Filled};
-ghost use Rattle.locate.specs.Batch.{signed, is_refused, row_of, cells, Ahead, row_at, refused_at, bad_rows, reasons_for, said_batch, batch_outcome, Given};
+ghost use Rattle.words.specs.Rows.{count_to, Filled};
+ghost use Rattle.locate.specs.Batch.{signed, row_of, cells, Ahead, row_at, refused_at, bad_rows, reasons_for, said_batch, batch_outcome, Given};
 
 use faceijk::Place;
 use level::CellLevel;
-use reply::{Refusal, Verdict};
-use vec2d::{Leftovers, Pointed, Rounded, Vec2d};
+use reply::Refusal;
+use vec2d::{Found, Leftovers, Vec2d};
 use vec3d::Vec3d;
 
 // A place, and the leftovers by which its hexagon was chosen.
-#[derive(Clone, Copy)]
+#[derive(Clone, Copy, Debug, PartialEq)]
 pub struct Spot {
     pub place: Place,
     pub left: Leftovers,
 }
 
-#[derive(Clone, Copy)]
-pub enum Located {
-    Done(Spot),
-    Refused(Refusal),
-}
-
-// How many rows of a batch were refused, or why the whole batch was.
-#[derive(Clone, Copy)]
-pub enum Batch {
-    Done(usize),
-    Refused(Refusal),
-}
-
 // A row of a batch: face, i, j, k, without the leftovers; or minus the refusal, 0, 0, 0.
-#[derive(Clone, Copy)]
+#[derive(Clone, Copy, Debug, PartialEq, Eq)]
 pub struct Row {
     pub face: i32,
     pub i: i32,
@@ -49,61 +36,66 @@ pub struct Row {
 }
 
 // The place of a plane point on a face.
-fn rounded(face: u32, point: Vec2d) -> Located
+fn rounded(face: u32, point: Vec2d) -> Result<Spot, Refusal>
     ensures { said_located result ≡ reply 6 (round_verdict point) (spot_values (spot (place face (nearest_of point)) (leftovers_of point))) }
 {
-    let answer = point.to_ijk();
-    match answer {
-        Rounded::Done(found) => {
-            let c = found.hexagon;
-            let left = found.left;
-            let place = Place::new(face, c.i, c.j, c.k);
-            Located::Done(Spot { place, left })
-        }
-        Rounded::Refused(refusal) => Located::Refused(refusal),
-    }
+    let Found { hexagon, left } = point.to_ijk()?;
+    let place = Place::new(face, hexagon.i, hexagon.j, hexagon.k);
+    Ok(Spot { place, left })
 }
 
 // The place of a vector that has passed, on its nearest face, which the caller has found.
-fn on_nearest(frame: &[f64], level: u32, face: u32, p: Vec3d) -> Located
-    requires { Entered frame.now level p × (face ≡ near_face frame.now p) }
-    ensures { said_located result ≡ reply 6 (first (front_reasons frame.now level p)) (spot_values (spot_of frame.now level p)) }
+fn on_nearest(frame: &[f64], level: CellLevel, face: u32, p: Vec3d) -> Result<Spot, Refusal>
+    requires { Entered frame.now level.0 p × (face ≡ near_face frame.now p) }
+    ensures { said_located result ≡ reply 6 (first (front_reasons frame.now level.0 p)) (spot_values (spot_of frame.now level.0 p)) }
 {
-    let answer = face_projection::project(vec3d::face_at(frame, face), level, p);
-    match answer {
-        Pointed::Done(point) => rounded(face, point),
-        Pointed::Refused(refusal) => Located::Refused(refusal),
-    }
+    let point = face_projection::project(vec3d::face_at(frame, face), level, p)?;
+    rounded(face, point)
 }
 
 // The place of any vector, with a frame and a level that have passed, and the face that is nearest to the vector if it passes. Its parts stand apart, so
 // that they come in registers: a vector read back from memory at once costs a tenth more.
-fn place_of(frame: &[f64], level: u32, face: u32, x: f64, y: f64, z: f64) -> Located
-    requires { Passed frame.now level ×
-        (vector_verdict (record { x = x; y = y; z = z }) ≡ Fine → face ≡ near_face frame.now (record { x = x; y = y; z = z })) }
-    ensures { said_located result ≡ row_reply frame.now level (record { x = x; y = y; z = z }) }
+fn place_of(
+    frame: &[f64],
+    level: CellLevel,
+    face: u32,
+    x: f64,
+    y: f64,
+    z: f64,
+) -> Result<Spot, Refusal>
+    requires { Passed frame.now level.0 ×
+        (vector_verdict (record { x = x; y = y; z = z }) ≡ fine → face ≡ near_face frame.now (record { x = x; y = y; z = z })) }
+    ensures { said_located result ≡ row_reply frame.now level.0 (record { x = x; y = y; z = z }) }
 {
     let p = Vec3d::new(x, y, z);
-    let verdict = p.verdict();
-    match verdict {
-        Verdict::Fine => on_nearest(frame, level, face, p),
-        Verdict::Refused(refusal) => Located::Refused(refusal),
-    }
+    p.verdict()?;
+    on_nearest(frame, level, face, p)
 }
 
 // The place of a unit vector at a cell level.
-pub fn locate(frame: &[f64], level: CellLevel, p: Vec3d) -> Located
+pub fn locate(frame: &[f64], level: CellLevel, p: Vec3d) -> Result<Spot, Refusal>
     ensures { said_located result ≡ locate_reply frame.now level.0 p }
 {
     if vec3d::bad_frame(frame) {
-        return Located::Refused(Refusal::BadFrame);
+        return Err(Refusal::BadFrame);
     }
-    let asked = level.0;
-    if CellLevel::FINEST < asked {
-        return Located::Refused(Refusal::BadLevel);
-    }
+    level.verdict()?;
     let face = vec3d::nearest_of(frame, p).face;
-    place_of(frame, asked, face, p.x, p.y, p.z)
+    place_of(frame, level, face, p.x, p.y, p.z)
+}
+
+impl From<Refusal> for Row {
+    fn from(found: Refusal) -> Row
+        ensures { cells result ≡ row_of (refusal 6 found) }
+    {
+        let number = found.number() as i32;
+        Row {
+            face: -number,
+            i: 0,
+            j: 0,
+            k: 0,
+        }
+    }
 }
 
 impl Row {
@@ -120,39 +112,14 @@ impl Row {
         }
     }
 
-    fn of_refusal(found: Refusal) -> Row
-        ensures { cells result ≡ row_of (refusal 6 found) }
-    {
-        let number = found.number() as i32;
-        Row {
-            face: -number,
-            i: 0,
-            j: 0,
-            k: 0,
-        }
-    }
-
-    fn of(located: Located) -> Row
+    fn of(located: Result<Spot, Refusal>) -> Row
         requires { Given located }
         ensures { cells result ≡ row_of (said_located located) }
     {
         match located {
-            Located::Done(found) => {
-                let place = found.place;
-                Row::of_place(place)
-            }
-            Located::Refused(refusal) => Row::of_refusal(refusal),
+            Ok(found) => Row::of_place(found.place),
+            Err(refusal) => Row::from(refusal),
         }
-    }
-}
-
-// 1 for an answer that is refused, 0 for a place.
-fn refusals_in(located: Located) -> usize
-    ensures { result ≡ one_if (is_refused (said_located located)) }
-{
-    match located {
-        Located::Done(_) => 0,
-        Located::Refused(_) => 1,
     }
 }
 
@@ -161,14 +128,7 @@ fn put_row(out: &mut [i32], at: usize, row: Row)
     requires { at + 4 ≤ length out.old }
     ensures { out.new ≡ sets out.old at (cells row) }
 {
-    let face = row.face;
-    let i = row.i;
-    let j = row.j;
-    let k = row.k;
-    out[at] = face;
-    out[at + 1] = i;
-    out[at + 2] = j;
-    out[at + 3] = k;
+    out[at..at + 4].copy_from_slice(&[row.face, row.i, row.j, row.k]);
 }
 
 // The face nearest to vector k, or 0 after the last.
@@ -184,23 +144,21 @@ fn face_ahead(frame: &[f64], input: &[f64], k: usize) -> u32
 
 // Fills the first rows of the lent part, one for each vector of the input, and counts those refused. The face of the next vector is looked for before
 // this one is placed: neither waits for the other, so the processor works at both at once.
-fn write_rows(frame: &[f64], level: u32, input: &[f64], out: &mut [i32]) -> usize
-    requires { Passed frame.now level × (4 * (length input.now / 3) ≤ length out.old) }
-    ensures { (result ≡ count_to (refused_at frame.now level input.now) (length input.now / 3)) ×
-        Filled 4 (row_at frame.now level input.now) (length input.now / 3) out.old out.new }
+fn write_rows(frame: &[f64], level: CellLevel, input: &[f64], out: &mut [i32]) -> usize
+    requires { Passed frame.now level.0 × (4 * (length input.now / 3) ≤ length out.old) }
+    ensures { (result ≡ count_to (refused_at frame.now level.0 input.now) (length input.now / 3)) ×
+        Filled 4 (row_at frame.now level.0 input.now) (length input.now / 3) out.old out.new }
 {
     let n = input.len() / 3;
-    let mut refused = 0usize;
-    let mut k = 0usize;
+    let mut refused = 0;
     let mut ahead = face_ahead(frame, input, 0);
-    while k < n {
+    for k in 0..n {
         let face = ahead;
         ahead = face_ahead(frame, input, k + 1);
         let p = vec3d::vec_at(input, 3 * k);
         let located = place_of(frame, level, face, p.x, p.y, p.z);
         put_row(out, 4 * k, Row::of(located));
-        refused += refusals_in(located);
-        k += 1;
+        refused += usize::from(located.is_err());
     }
     refused
 }
@@ -216,14 +174,20 @@ fn bad_rows(ins: usize, outs: usize, start: usize) -> bool
     (ins % 3 != 0) | (outs % 4 != 0) | (rows - start < ins / 3)
 }
 
-fn batch_verdict(frame: &[f64], level: CellLevel, ins: usize, outs: usize, start: usize) -> Verdict
+fn batch_verdict(
+    frame: &[f64],
+    level: CellLevel,
+    ins: usize,
+    outs: usize,
+    start: usize,
+) -> Result<(), Refusal>
     ensures { result ≡ first (reasons_for frame.now level.0 ins outs start) }
 {
     if vec3d::bad_frame(frame) {
-        return Verdict::Refused(Refusal::BadFrame);
+        return Err(Refusal::BadFrame);
     }
     if bad_rows(ins, outs, start) {
-        return Verdict::Refused(Refusal::BadRows);
+        return Err(Refusal::BadRows);
     }
     level.verdict()
 }
@@ -235,17 +199,12 @@ pub fn locate_all(
     input: &[f64],
     out: &mut [i32],
     first_row: usize,
-) -> Batch
+) -> Result<usize, Refusal>
     ensures { record { said = said_batch result; rows = out.new } ≡
         batch_outcome frame.now level.0 input.now out.old first_row }
 {
-    let verdict = batch_verdict(frame, level, input.len(), out.len(), first_row);
-    match verdict {
-        Verdict::Fine => {
-            let start = 4 * first_row;
-            let refused = write_rows(frame, level.0, input, &mut out[start..]);
-            Batch::Done(refused)
-        }
-        Verdict::Refused(refusal) => Batch::Refused(refusal),
-    }
+    batch_verdict(frame, level, input.len(), out.len(), first_row)?;
+    let start = 4 * first_row;
+    let refused = write_rows(frame, level, input, &mut out[start..]);
+    Ok(refused)
 }

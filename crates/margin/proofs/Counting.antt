@@ -1,4 +1,5 @@
 -- A leftover is a number below 1 in size, so that its 2^51sts can be counted, and every way towards a neighbour is a double. Assumes nothing.
+use Rattle.reply.specs.Replies.{fine}
 use Rattle.std.proofs.Common.{◌≡◌, ℕ, ◌+◌, ◌*◌, ◌^◌, ◌<◌, ◌≤◌, max, Bool, true, false, not, ◌&&◌, T, pos, ◌-ℤ◌, refl, ap, ◌∙◌, arith, lit≤, le→leb, ltb→lt, lt→ltb, nltb→le}
 use mathlib.Core.Bool.{false≢true}
 use borrow.Author.Tests.{not-false}
@@ -6,7 +7,6 @@ use lib.Ieee.{Float, nan, inf, fin, binary64, of_bits, up, down, round, sub, mul
 use lib.Ieee.Fits.{down_pos}
 use lib.Ieee.Positive.{num, den}
 use Rattle.reply.specs.declared.Refusal.TheVariants.{BadRange}
-use Rattle.reply.specs.declared.Verdict.TheVariants.{Fine}
 use Rattle.reply.proofs.Entries.{passed, both}
 use Rattle.double.specs.Double.{finite, nought, one, size_of}
 use Rattle.double.specs.Sizes.{Upto}
@@ -39,8 +39,8 @@ pub leftover_upto : (r : Float) → is_leftover r ≡ true → Upto 1 (size_of r
 leftover_upto r h = let b = below_one r h in size_upto 1 r (record { number = b.0; size = omega (arith, b.1) })
 
 -- Where a margin is answered, both leftovers have passed.
-pub taken : (l : Leftovers) → margin_verdict l ≡ Fine → (is_leftover l.r1 ≡ true) × (is_leftover l.r2 ≡ true)
-taken l e = both (is_leftover l.r1) (is_leftover l.r2) (not-false _ (passed (not (is_leftover l.r1 && is_leftover l.r2)) BadRange Fine e).0)
+pub taken : (l : Leftovers) → margin_verdict l ≡ fine → (is_leftover l.r1 ≡ true) × (is_leftover l.r2 ≡ true)
+taken l e = both (is_leftover l.r1) (is_leftover l.r2) (not-false _ (passed (not (is_leftover l.r1 && is_leftover l.r2)) BadRange fine e).0)
 
 unit_upto : Upto (2 ^ 51) unit
 unfolding of_bits

@@ -1,11 +1,11 @@
 -- A margin is exactly the whole number of 2^52nds that its definition names: nothing is rounded. Assumes nothing.
+use Rattle.reply.specs.Replies.{fine}
 use Rattle.std.proofs.Common.{◌≡◌, ℕ, suc, ◌+◌, ◌*◌, ◌^◌, ◌<◌, ◌≤◌, Bool, true, false, ℤ, pos, negsuc, ◌-ℤ◌, nat_abs, sym, refl, lt_of_lt_of_le, mul_assoc, arith, lit<, lit≤, shl_lt}
 use lib.Ieee.{Float, nan, inf, fin, binary64, up, down, unlike, of_bits, of_int, round, div}
 use lib.Ieee.Fits.{down_pos}
 use lib.Ieee.Exact.{HasValue, round_exact}
 use lib.Ieee.Back.{round_whole}
 use lib.Ieee.Scale.{round_same}
-use Rattle.reply.specs.declared.Verdict.TheVariants.{Fine}
 use Rattle.coordijk.proofs.Differences.{View, view, diff_pos, diff_neg}
 use Rattle.double.specs.Double.{size_of}
 use Rattle.vec2d.specs.declared.Leftovers.{Leftovers}
@@ -41,7 +41,7 @@ counted (pos n) h = quotient (round binary64 false n 1) false n (round_whole bin
 counted (negsuc n) h = quotient (round binary64 true (suc n) 1) true (suc n) (round_whole binary64 true (suc n) (omega arith)) h
 
 -- What is answered is exactly the margin of the definition.
-pub margin_counts : (l : Leftovers) → margin_verdict l ≡ Fine → Counts (margin_of l) (margin_in l)
+pub margin_counts : (l : Leftovers) → margin_verdict l ≡ fine → Counts (margin_of l) (margin_in l)
 unfolding margin_of
 margin_counts l e =
     let p = taken l e in

@@ -1,10 +1,10 @@
 -- How true every margin is that is answered: above -(2^-41 + 2^-51), and that of the exact leftovers but for less than 2^-51. And no point that rounding
 -- accepts is refused one. Assumes nothing.
+use Rattle.reply.specs.Replies.{fine}
 use Rattle.std.proofs.Common.{◌≡◌, ℕ, ◌+◌, ◌*◌, ◌^◌, ◌<◌, true, false, T, refl, mul_comm, mul-lt-mul_of_pos_right}
 use mathlib.Core.Bool.{false≢true}
 use lib.Ieee.{Float, nan, inf, fin, binary64, fits}
 use lib.Ieee.Positive.{num, den, den_pos}
-use Rattle.reply.specs.declared.Verdict.TheVariants.{Fine}
 use Rattle.double.specs.Double.{finite, size_of}
 use Rattle.double.proofs.Left.{InUnit, over}
 use Rattle.double.proofs.Sign.{fits_size}
@@ -32,7 +32,7 @@ widened : (r : Float) (a d k : ℕ) → 0 < k → Fraction r a d → Fraction r 
 widened r a d k o f = record { fine = f.fine; value = over r a d k f.value; low = mul-lt-mul_of_pos_right f.low o }
 
 -- Any two leftovers that a program holds and that get a margin.
-module _ (l : Leftovers) (held : HeldLeft l) (answered : margin_verdict l ≡ Fine) where
+module _ (l : Leftovers) (held : HeldLeft l) (answered : margin_verdict l ≡ fine) where
   -- both are fractions over the product of the two denominators
   abbrev pub all : ℕ
   all = den l.r1 * den l.r2
@@ -64,10 +64,10 @@ passes : (r : Float) → InUnit r → is_leftover r ≡ true
 unfolding is_leftover
 passes r u = rw (u.low, u.high)
 
-module _ (v : Vec2d) (fine : round_verdict v ≡ Fine) where
+module _ (v : Vec2d) (clear : round_verdict v ≡ fine) where
   -- No leftovers that rounding gives are refused a margin.
-  pub never_five : margin_verdict (leftovers_of v) ≡ Fine
-  never_five = rw (passes _ (in_unit v fine).0, passes _ (in_unit v fine).1)
+  pub never_five : margin_verdict (leftovers_of v) ≡ fine
+  never_five = rw (passes _ (in_unit v clear).0, passes _ (in_unit v clear).1)
 
   -- and a program can hold them
   pub left_held : HeldLeft (leftovers_of v)

@@ -1,18 +1,16 @@
 -- How far a point was from the nearest border of its hexagon, in hexagons: the way from one centre to the next is 1, so that the margin is 0 on the border
 -- and 1/2 at the centre. It is worked out over whole numbers, which count 2^51sts.
-use Rattle.std.specs.Prelude.{ℕ, ◌+◌, ◌-◌, ◌*◌, ◌^◌, max, Bool, not, ◌&&◌, List, [], ◌∷◌, ℤ, pos, ◌-ℤ◌, from_bits, to_bits, Float}
+use Rattle.reply.specs.declared.Refusal.{Refusal}
+use Rattle.std.specs.Prelude.{ℕ, ◌+◌, ◌-◌, ◌*◌, ◌^◌, max, Bool, not, ◌&&◌, List, [], ◌∷◌, ℤ, pos, ◌-ℤ◌, from_bits, to_bits, Float, Result}
 use Rattle.std.specs.Float.{binary64}
 use Rattle.std.specs.Float.Ieee.{mul, div, lt, le, of_int}
 use Rattle.reply.specs.Choice.{pick}
-use Rattle.reply.specs.declared.Verdict.{Verdict}
 use Rattle.reply.specs.declared.Refusal.TheVariants.{BadRange}
-use Rattle.reply.specs.Replies.{Reason, when, first, Reply, answer, refusal, reply}
+use Rattle.reply.specs.Replies.{Reason, when, first, Reply, reply, Verdict, said}
 use Rattle.double.specs.Double.{nought, one, size_of, whole_of}
 use Rattle.vec2d.specs.declared.Leftovers.{Leftovers}
 use Rattle.vec2d.specs.declared.Steps.{Steps}
 use Rattle.vec2d.specs.Rounding.{steps_of}
-use Rattle.margin.specs.declared.Margined.{Margined}
-use Rattle.margin.specs.declared.Margined.TheVariants.{Done, Refused}
 
 -- at least 0 and below 1; minus zero is at least 0
 unfoldable pub is_leftover : Float → Bool
@@ -68,9 +66,8 @@ abbrev pub margin_verdict : Leftovers → Verdict
 margin_verdict l = first (margin_reasons l)
 
 -- the entry, in the paper's numbers: the margin by its bits
-abbrev pub said_margin : Margined → Reply
-said_margin (Done x) = answer (to_bits binary64 x ∷ [])
-said_margin (Refused r) = refusal 1 r
+abbrev pub said_margin : Result Float Refusal → Reply
+said_margin = said 1 (λ x. to_bits binary64 x ∷ [])
 
 abbrev pub margin_reply : Leftovers → Reply
 margin_reply l = reply 1 (margin_verdict l) (to_bits binary64 (margin_of l) ∷ [])

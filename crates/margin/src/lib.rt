@@ -1,19 +1,12 @@
 // How far a point was from the nearest border of its hexagon, by the leftovers of its rounding alone.
 #![tactic(auto)]
 
-ghost use Rattle.std.specs.Prelude.{◌≡◌, ◌*◌, ◌^◌, ◌≤◌, max};
+ghost use Rattle.std.specs.Prelude.{◌≡◌, ◌*◌, ◌^◌, ◌≤◌};
 ghost use Rattle.double.specs.Sizes.{Upto};
 ghost use Rattle.margin.specs.Margins.{is_leftover, parts_of, gap_of, step_of, reach_in, said_margin, margin_reply};
 
 use reply::Refusal;
 use vec2d::{Leftovers, Steps};
-
-// A margin, or why there is none.
-#[derive(Clone, Copy)]
-pub enum Margined {
-    Done(f64),
-    Refused(Refusal),
-}
 
 // Lengths are counted in 2^51sts of the way from one centre to the next. The longest way has at most three times as many, which a double holds exactly.
 pub const UNIT: u64 = 2251799813685248;
@@ -36,13 +29,7 @@ fn parts(r: f64) -> u64
 fn gap(a: u64, b: u64) -> u64
     ensures { result ≡ gap_of a b }
 {
-    if a < b { b - a } else { a - b }
-}
-
-fn most(a: u64, b: u64) -> u64
-    ensures { result ≡ max a b }
-{
-    if a < b { b } else { a }
+    a.abs_diff(b)
 }
 
 // How far off a centre is that lies a step up, or none.
@@ -64,18 +51,18 @@ fn reach(m: u64, n: u64, s: Steps) -> u64
     let along_i = gap(2 * m + j, n + 2 * i);
     let along_j = gap(2 * n + i, m + 2 * j);
     let along_ij = gap(m + n, i + j);
-    most(along_i, most(along_j, along_ij))
+    along_i.max(along_j.max(along_ij))
 }
 
 // The margin of a point with these leftovers.
-pub fn margin(left: Leftovers) -> Margined
+pub fn margin(left: Leftovers) -> Result<f64, Refusal>
     ensures { said_margin result ≡ margin_reply left }
 {
     if is_leftover(left.r1) & is_leftover(left.r2) {
         let r1 = double::magnitude(left.r1);
         let r2 = double::magnitude(left.r2);
         let far = reach(parts(r1), parts(r2), vec2d::chosen(r1, r2));
-        return Margined::Done((2251799813685248.0 - (far as f64)) / 4503599627370496.0);
+        return Ok((2251799813685248.0 - (far as f64)) / 4503599627370496.0);
     }
-    Margined::Refused(Refusal::BadRange)
+    Err(Refusal::BadRange)
 }

@@ -6,8 +6,7 @@ use Prim.Native.Nat.{ℕ}
 use native.Mathlib.Omega.{arith}
 use borrow.Author.Tests.{le-ltb}
 use Rattle.reply.specs.Choice.{pick}
-use Rattle.reply.specs.declared.Verdict.TheVariants.{Fine}
-use Rattle.reply.specs.Replies.{answer}
+use Rattle.reply.specs.Replies.{answer, fine}
 use Rattle.reply.proofs.Entries.{values, answered}
 use Rattle.level.specs.declared.Grid.{Grid}
 use Rattle.level.specs.Levels.{bad_grid, grid_of}
@@ -28,7 +27,7 @@ abbrev grid_at : ℕ → Grid
 grid_at l = grid_of l true
 
 -- corners that lie inside their faces are taken
-pub inside_fine : (p q : Place) (l : ℕ) → bad_grid l ≡ false → Inside (grid_at l) p → Inside (grid_at l) q → names_verdict p q l ≡ Fine
+pub inside_fine : (p q : Place) (l : ℕ) → bad_grid l ≡ false → Inside (grid_at l) p → Inside (grid_at l) q → names_verdict p q l ≡ fine
 inside_fine p q l b x y =
     let f = le-ltb 19 p.face (omega (arith, x.okay.on)) in
     let h = le-ltb 19 q.face (omega (arith, y.okay.on)) in
@@ -43,10 +42,10 @@ pub record Named (p q : Place) (l : ℕ) : Type 0 where
   pub first : FirstName (grid_at l) p q
   pub again : first_reply q l ≡ answer (place_values q)
 
-pub first_name_is : (p : Place) (l : ℕ) → names_verdict p p l ≡ Fine → Named p (first_of (grid_at l) p) l
-first_name_is p l fine =
+pub first_name_is : (p : Place) (l : ℕ) → names_verdict p p l ≡ fine → Named p (first_of (grid_at l) p) l
+first_name_is p l clear =
     let g = grid_at l in
-    let a = accepted p p l fine in
+    let a = accepted p p l clear in
     let first = first_is g a.sound p a.here in
     let i = name_inside g a.sound p a.here first.reached in
     record {
@@ -63,15 +62,15 @@ pub record Compared (p q : Place) (l : ℕ) : Type 0 where
   pub yes_first : same_reply p q l ≡ answer (1 ∷ []) → first_reply p l ≡ first_reply q l
   pub first_yes : first_reply p l ≡ first_reply q l → same_reply p q l ≡ answer (1 ∷ [])
 
-module _ (p q : Place) (l : ℕ) (fine : names_verdict p q l ≡ Fine) where
+module _ (p q : Place) (l : ℕ) (clear : names_verdict p q l ≡ fine) where
   abbrev g : Grid
   g = grid_at l
 
   a : Accepted p q l
-  a = accepted p q l fine
+  a = accepted p q l clear
 
   said : (b : Bool) → same_of g p q ≡ b → same_reply p q l ≡ answer (pick b 1 0 ∷ [])
-  said b e = simp (fine, e)
+  said b e = simp (clear, e)
 
   yes_is : same_reply p q l ≡ answer (1 ∷ []) → same_of g p q ≡ true
   yes_is e = go (same_of g p q) refl
@@ -101,17 +100,17 @@ module _ (p q : Place) (l : ℕ) (fine : names_verdict p q l ≡ Fine) where
 
 -- the answers are an equivalence: each corner is the same as itself, and yes holds the other way round and from one to the next
 module _ (l : ℕ) where
-  yes_fine : (p q : Place) → same_reply p q l ≡ answer (1 ∷ []) → names_verdict p q l ≡ Fine
+  yes_fine : (p q : Place) → same_reply p q l ≡ answer (1 ∷ []) → names_verdict p q l ≡ fine
   yes_fine p q e = (answered 1 (names_verdict p q l) (1 ∷ []) _ (sym e)).0
 
-  pub yes_self : (p : Place) → names_verdict p p l ≡ Fine → same_reply p p l ≡ answer (1 ∷ [])
-  yes_self p fine = (same_corner_is p p l fine).reached_yes (same_self (grid_at l) p)
+  pub yes_self : (p : Place) → names_verdict p p l ≡ fine → same_reply p p l ≡ answer (1 ∷ [])
+  yes_self p clear = (same_corner_is p p l clear).reached_yes (same_self (grid_at l) p)
 
   pub yes_back : (p q : Place) → same_reply p q l ≡ answer (1 ∷ []) → same_reply q p l ≡ answer (1 ∷ [])
   yes_back p q e =
-      let fine = yes_fine p q e in
-      let a = accepted p q l fine in
-      let r = (same_corner_is p q l fine).yes_reached e in
+      let clear = yes_fine p q e in
+      let a = accepted p q l clear in
+      let r = (same_corner_is p q l clear).yes_reached e in
       (same_corner_is q p l (inside_fine q p l a.level a.there a.here)).reached_yes (same_back (grid_at l) a.sound p a.here r)
 
   pub yes_through : (p q r : Place) → same_reply p q l ≡ answer (1 ∷ []) → same_reply q r l ≡ answer (1 ∷ []) → same_reply p r l ≡ answer (1 ∷ [])

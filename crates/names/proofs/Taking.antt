@@ -4,16 +4,16 @@ use mathlib.Core.Bool.{true, false}
 use Prim.Native.Nat.{ℕ}
 use native.Mathlib.Omega.{arith}
 use borrow.Author.Tests.{ltb-false}
+use Rattle.reply.specs.Replies.{fine}
+use Rattle.std.specs.Prelude.{Ok, Err, Result}
 use Rattle.reply.specs.declared.Refusal.{Refusal}
 use Rattle.reply.specs.declared.Refusal.TheVariants.{BadFace, BadLevel, NotReduced, OutOfFace}
-use Rattle.reply.specs.declared.Verdict.TheVariants.{Fine, Refused}
 use Rattle.reply.proofs.Entries.{passed, neither}
 use Rattle.level.specs.declared.Grid.{Grid}
 use Rattle.level.specs.Levels.{bad_grid, grid_of, Sound}
 use Rattle.coordijk.specs.Coordinates.{not_reduced}
 use Rattle.coordijk.proofs.Taking.{passed as taken_passed}
 use Rattle.faceijk.specs.declared.Place.{Place}
-use Rattle.faceijk.specs.declared.OnGrid.{OnGrid}
 use Rattle.faceijk.specs.Places.{coord_of, bad_face, on_grid_of}
 use Rattle.faceijk.proofs.Taking.{fine_told, refused_told, sound_at}
 use Rattle.names.specs.Entries.{out_of, names_verdict, Inside}
@@ -27,14 +27,14 @@ pub record Accepted (p q : Place) (l : ℕ) : Type 0 where
 
 -- and the same of the grid that the tests give
 pub record Entered (p q : Place) (l : ℕ) (g : Grid) : Type 0 where
-  pub fine : names_verdict p q l ≡ Fine
+  pub fine : names_verdict p q l ≡ fine
   pub is : g ≡ grid_of l true
   pub here : Inside g p
   pub there : Inside g q
   pub sound : Sound g
 
 module _ (p q : Place) (l : ℕ) where
-  pub accepted : names_verdict p q l ≡ Fine → Accepted p q l
+  pub accepted : names_verdict p q l ≡ fine → Accepted p q l
   accepted e =
       let t3 = passed _ BadFace _ e in
       let t4 = passed (bad_grid l) BadLevel _ t3.1 in
@@ -52,11 +52,11 @@ module _ (p q : Place) (l : ℕ) where
         sound = sound_at l true t4.0;
       }
 
-  pub entered : {x : OnGrid} {g : Grid} → x ≡ OnGrid.Fine g → x ≡ on_grid_of (names_verdict p q l) (grid_of l true) → Entered p q l g
+  pub entered : {x : Result Grid Refusal} {g : Grid} → x ≡ Ok g → x ≡ on_grid_of (names_verdict p q l) (grid_of l true) → Entered p q l g
   entered {x} {g} is e =
       let t = fine_told (names_verdict p q l) (grid_of l true) g x is e in
       let a = accepted t.0 in
       record { fine = t.0; is = t.1; here = rw t.1 a.here; there = rw t.1 a.there; sound = rw t.1 a.sound }
 
-  pub turned_away : {x : OnGrid} {r : Refusal} → x ≡ OnGrid.Refused r → x ≡ on_grid_of (names_verdict p q l) (grid_of l true) → names_verdict p q l ≡ Refused r
+  pub turned_away : {x : Result Grid Refusal} {r : Refusal} → x ≡ Err r → x ≡ on_grid_of (names_verdict p q l) (grid_of l true) → names_verdict p q l ≡ Err r
   turned_away {x} {r} is e = refused_told (names_verdict p q l) (grid_of l true) r x is e

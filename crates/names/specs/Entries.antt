@@ -1,15 +1,14 @@
 -- The entries on corner names, in the paper's numbers. Both are asked of places with s at most m, on the substrate grid of a level.
-use Rattle.std.specs.Prelude.{Bool, true, ◌||◌, List, [], ◌∷◌, ℕ, ◌≤◌, ltb}
+use Rattle.reply.specs.declared.Refusal.{Refusal}
+use Rattle.std.specs.Prelude.{Bool, true, ◌||◌, List, [], ◌∷◌, ℕ, ◌≤◌, ltb, Result}
 use Rattle.reply.specs.Choice.{pick}
-use Rattle.reply.specs.declared.Verdict.{Verdict}
 use Rattle.reply.specs.declared.Refusal.TheVariants.{BadFace, BadLevel, NotReduced, OutOfFace}
-use Rattle.reply.specs.Replies.{Reply, Reason, when, first, answer, refusal, reply}
+use Rattle.reply.specs.Replies.{Reply, Reason, when, first, reply, Verdict, said, yes_or_no}
 use Rattle.level.specs.declared.Grid.{Grid}
 use Rattle.level.specs.Levels.{bad_grid, grid_of}
 use Rattle.coordijk.specs.Coordinates.{not_reduced}
 use Rattle.faceijk.specs.declared.Place.{Place}
 use Rattle.faceijk.specs.Places.{coord_of, place_values, sum_at, bad_face, Okay}
-use Rattle.names.specs.declared.SameCorner.{SameCorner}
 use Rattle.names.specs.Row.{same_of, first_of}
 
 -- OutOfFace: s above m
@@ -41,10 +40,8 @@ abbrev pub first_reply : Place → ℕ → Reply
 first_reply p l = reply 4 (names_verdict p p l) (place_values (first_of (grid_of l true) p))
 
 -- whether two corners are the same: 1 yes, 0 no
-abbrev pub said_same : SameCorner → Reply
-said_same SameCorner.Yes = answer (1 ∷ [])
-said_same SameCorner.No = answer (0 ∷ [])
-said_same (SameCorner.Refused r) = refusal 1 r
+abbrev pub said_same : Result Bool Refusal → Reply
+said_same = said 1 yes_or_no
 
 abbrev pub same_reply : Place → Place → ℕ → Reply
 same_reply p q l = reply 1 (names_verdict p q l) (pick (same_of (grid_of l true) p q) 1 0 ∷ [])

@@ -1,11 +1,12 @@
 -- A test of every number below another, and of some. Assumes nothing.
 use mathlib.Core.Path.{◌≡◌, refl, sym, ap, ◌∙◌}
-use mathlib.Core.Bool.{Bool, true, false, false≢true, or-true, and-false}
+use mathlib.Core.Bool.{Bool, true, false, ◌&&◌, false≢true, or-true, and-false, and-true, and_assoc}
 use mathlib.Core.Logic.{⊎_elim}
 use Prim.Native.Nat.{ℕ, zero, suc, ◌+◌, ◌<◌}
-use native.Mathlib.Nat.{eq-or-lt_of_le, le_of_suc-le-suc, not-suc-le-zero}
+use native.Mathlib.Nat.{add-zero, eq-or-lt_of_le, le_of_suc-le-suc, not-suc-le-zero}
 use native.Mathlib.Numerals.{add-one}
 use native.Mathlib.Omega.{arith}
+use Rattle.std.specs.List.{list_all, range_with_len}
 use Rattle.reply.proofs.Entries.{both}
 use Rattle.region.specs.Places.{all_to, any_to}
 
@@ -64,3 +65,19 @@ pub all_same : (f g : ℕ → Bool) (n : ℕ) → ((k : ℕ) → k < n → f k �
 unfolding all_to
 all_same f g zero h = refl
 all_same f g (suc n) h = rw (all_same f g n (λ k l. h k (omega arith)), h n (omega arith))
+
+in_front : (test : ℕ → Bool) (n : ℕ) → all_to test (suc n) ≡ (test 0 && all_to (λ k. test (suc k)) n)
+unfolding all_to
+in_front test zero = sym (and-true (test 0))
+in_front test (suc n) = rw (in_front test n) (and_assoc (test 0) _ _)
+
+-- a range of numbers, gone through from its first one
+ranged_from : (test : ℕ → Bool) (a n : ℕ) → list_all test (range_with_len a n) ≡ all_to (λ k. test (a + k)) n
+unfolding all_to
+ranged_from test a zero = refl
+ranged_from test a (suc n) =
+    rw (ranged_from test (a + 1) n, in_front (λ k. test (a + k)) n, add-zero a)
+    (ap (λ (b : Bool). test a && b) (all_same _ _ n (λ k h. ap test (omega arith))))
+
+pub all_ranged : (test : ℕ → Bool) (n : ℕ) → list_all test (range_with_len 0 n) ≡ all_to test n
+all_ranged test n = ranged_from test 0 n ∙ all_same _ _ n (λ k h. ap test (omega arith))

@@ -7,11 +7,9 @@ use native.Mathlib.Omega.{arith}
 use lib.Dec.{ltb}
 use lib.ListN.{length, get_or}
 use borrow.Author.Tests.{ltb-true}
-use Rattle.reply.specs.declared.Verdict.{Verdict}
-use Rattle.reply.specs.declared.Verdict.TheVariants.{Fine, Refused}
+use Rattle.std.specs.Prelude.{Ok, Err}
 use Rattle.reply.specs.declared.Refusal.TheVariants.{BadList}
-use Rattle.reply.specs.Replies.{when, reply, first}
-use Rattle.level.specs.Levels.{bit}
+use Rattle.reply.specs.Replies.{when, reply, first, Verdict, fine, bit}
 use Rattle.words.specs.Words.{word_at}
 use Rattle.faceijk.specs.declared.Place.{Place}
 use Rattle.faceijk.specs.Places.{same_place, place_reasons}
@@ -98,5 +96,5 @@ module _ (s t : List ℕ) (p : Place) (a : Agree s t p.face) where
       ∙ ap (λ (bad : Bool). reply 1 (first (when bad BadList ∷ place_reasons p)) (bit (sought_in t p) ∷ [])) one_tested
     where
       go : (v : Verdict) → has_verdict s p ≡ v → reply 1 v (bit (sought_in s p) ∷ []) ≡ reply 1 v (bit (sought_in t p) ∷ [])
-      go Fine e = ap (λ (b : Bool). reply 1 Fine (bit b ∷ [])) (one_sought (asked s p e).on)
-      go (Refused r) e = refl
+      go (Ok _) e = ap (λ (b : Bool). reply 1 fine (bit b ∷ [])) (one_sought (asked s p e).on)
+      go (Err r) e = refl

@@ -7,11 +7,9 @@ use native.Mathlib.Omega.{arith}
 use lib.Dec.{ltb, eqb}
 use lib.ListN.{length}
 use borrow.Author.Tests.{ltb-false, eqb-true, not-false, le-ltb}
-use Rattle.reply.specs.declared.Verdict.TheVariants.{Fine}
 use Rattle.reply.specs.declared.Refusal.TheVariants.{BadList, BadFace, NotReduced}
-use Rattle.reply.specs.Replies.{number_of, when, first, answer, reply}
+use Rattle.reply.specs.Replies.{number_of, when, first, answer, reply, fine, bit}
 use Rattle.reply.proofs.Entries.{neither, passed, answers}
-use Rattle.level.specs.Levels.{bit}
 use Rattle.faceijk.specs.declared.Place.{Place}
 use Rattle.coordijk.specs.Coordinates.{not_reduced}
 use Rattle.faceijk.specs.Places.{bad_face, coord_of, place_verdict}
@@ -53,16 +51,16 @@ spanned s f h e =
 pub record Asked (s : List ℕ) (p : Place) : Type 0 where
   pub tested : bad_for s p.face ≡ false
   pub on : p.face < 20
-  pub fine : place_verdict p ≡ Fine
+  pub fine : place_verdict p ≡ fine
 
-pub asked : (s : List ℕ) (p : Place) → has_verdict s p ≡ Fine → Asked s p
+pub asked : (s : List ℕ) (p : Place) → has_verdict s p ≡ fine → Asked s p
 asked s p e =
     let a = passed (bad_for s p.face) BadList _ e in
     let b = ltb-false 19 p.face (passed (bad_face p.face) BadFace _ a.1).0 in
     record { tested = a.0; on = omega arith; fine = a.1 }
 
 -- an answer by its bit
-pub told : (s : List ℕ) (p : Place) (b : Bool) → has_verdict s p ≡ Fine → b ≡ sought_in s p → answer (bit b ∷ []) ≡ has_reply s p
+pub told : (s : List ℕ) (p : Place) (b : Bool) → has_verdict s p ≡ fine → b ≡ sought_in s p → answer (bit b ∷ []) ≡ has_reply s p
 told s p b f e = answers 1 (has_verdict s p) _ _ f (ap (λ (x : Bool). answer (bit x ∷ [])) e)
 
 -- The search in a list that is asked takes at most 31 turns, since it has at most 2^31 - 1 records.

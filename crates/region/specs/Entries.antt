@@ -1,14 +1,11 @@
 -- Reading a record, and whether a place is in a list.
-use Rattle.std.specs.Prelude.{Bool, ◌&&◌, ◌||◌, not, List, [], ◌∷◌, ℕ, zero, suc, ◌+◌, ◌-◌, ◌/◌, ltb, leb}
+use Rattle.reply.specs.declared.Refusal.{Refusal}
+use Rattle.std.specs.Prelude.{Bool, ◌&&◌, ◌||◌, not, List, [], ◌∷◌, ℕ, zero, suc, ◌+◌, ◌-◌, ◌/◌, ltb, leb, Result}
 use Rattle.reply.specs.Choice.{pick}
-use Rattle.reply.specs.declared.Verdict.{Verdict}
 use Rattle.reply.specs.declared.Refusal.TheVariants.{BadList, BadRange}
-use Rattle.reply.specs.Replies.{Reply, Reason, when, first, answer, refusal, reply}
-use Rattle.level.specs.Levels.{bit}
+use Rattle.reply.specs.Replies.{Reply, Reason, when, first, reply, Verdict, said, yes_or_no, bit}
 use Rattle.faceijk.specs.declared.Place.{Place}
 use Rattle.faceijk.specs.Places.{place_values, same_place, bad_face, place_reasons}
-use Rattle.region.specs.declared.Recorded.{Recorded}
-use Rattle.region.specs.declared.Listed.{Listed}
 use Rattle.region.specs.Places.{before}
 use Rattle.region.specs.Lists.{record_at, start_of, end_of, count_of, wrong_length, bad_span}
 
@@ -21,9 +18,8 @@ read_reasons s n = when (wrong_length s) BadList ∷ when (leb (count_of s) n) B
 abbrev pub read_verdict : List ℕ → ℕ → Verdict
 read_verdict s n = first (read_reasons s n)
 
-abbrev pub said_recorded : Recorded → Reply
-said_recorded (Recorded.Done p) = answer (place_values p)
-said_recorded (Recorded.Refused r) = refusal 4 r
+abbrev pub said_recorded : Result Place Refusal → Reply
+said_recorded = said 4 place_values
 
 abbrev pub read_reply : List ℕ → ℕ → Reply
 read_reply s n = reply 4 (read_verdict s n) (place_values (record_at s n))
@@ -62,10 +58,8 @@ has_reasons s p = when (bad_for s p.face) BadList ∷ place_reasons p
 abbrev pub has_verdict : List ℕ → Place → Verdict
 has_verdict s p = first (has_reasons s p)
 
-abbrev pub said_listed : Listed → Reply
-said_listed (Listed.Yes) = answer (1 ∷ [])
-said_listed (Listed.No) = answer (0 ∷ [])
-said_listed (Listed.Refused r) = refusal 1 r
+abbrev pub said_listed : Result Bool Refusal → Reply
+said_listed = said 1 yes_or_no
 
 abbrev pub has_reply : List ℕ → Place → Reply
 has_reply s p = reply 1 (has_verdict s p) (bit (sought_in s p) ∷ [])

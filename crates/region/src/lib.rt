@@ -1,15 +1,14 @@
 // Region lists: a file of places at one cell level, sorted, with an index at the tail. Reading a record, and whether a place is in the list.
 #![tactic(auto)]
 
-ghost use Rattle.std.specs.Prelude.{◌≡◌, false, ◌+◌, ◌-◌, ◌*◌, ◌≤◌, ◌<◌, length};
-ghost use Rattle.reply.specs.Replies.{verdict_number};
+ghost use Rattle.std.specs.Prelude.{◌≡◌, Bool, false, ℕ, ◌+◌, ◌-◌, ◌*◌, ◌≤◌, ◌<◌, length};
 ghost use Rattle.words.specs.Words.{word_at};
 ghost use Rattle.region.specs.Places.{before};
 ghost use Rattle.region.specs.Lists.{record_at, start_of, end_of, count_of, wrong_length, bad_span};
 ghost use Rattle.region.specs.Entries.{said_recorded, read_reply, halved, sought_in, bad_for, has_verdict, said_listed, has_reply};
 
 use faceijk::Place;
-use reply::{Refusal, Verdict};
+use reply::Refusal;
 
 // The bytes of a record, those after the records, and how many records there may be.
 pub const RECORD: usize = 16;
@@ -17,19 +16,6 @@ pub const RECORD: usize = 16;
 pub const TAIL: usize = 88;
 
 pub const MOST: usize = 2147483647;
-
-#[derive(Clone, Copy)]
-pub enum Recorded {
-    Done(Place),
-    Refused(Refusal),
-}
-
-#[derive(Clone, Copy)]
-pub enum Listed {
-    Yes,
-    No,
-    Refused(Refusal),
-}
 
 // The order of a list: by face, then i, j, k. With branches: in a long list the search takes half the time that one joined test takes.
 pub fn is_before(p: Place, q: Place) -> bool
@@ -106,16 +92,16 @@ pub fn wrong_length(list: &[u8]) -> bool
 }
 
 // The record with a number.
-pub fn read(list: &[u8], n: usize) -> Recorded
+pub fn read(list: &[u8], n: usize) -> Result<Place, Refusal>
     ensures { said_recorded result ≡ read_reply list.now n }
 {
     if wrong_length(list) {
-        return Recorded::Refused(Refusal::BadList);
+        return Err(Refusal::BadList);
     }
     if count_of(list) <= n {
-        return Recorded::Refused(Refusal::BadRange);
+        return Err(Refusal::BadRange);
     }
-    Recorded::Done(record_at(list, n))
+    Ok(record_at(list, n))
 }
 
 fn bad_span(list: &[u8], face: u32) -> bool
@@ -138,25 +124,27 @@ fn bad_for(list: &[u8], face: u32) -> bool
     bad_span(list, face)
 }
 
-fn has_verdict(list: &[u8], place: Place) -> Verdict
-    ensures { verdict_number result ≡ verdict_number (has_verdict list.now place) }
+fn has_verdict(list: &[u8], place: Place) -> Result<(), Refusal>
+    ensures { result ≡ has_verdict list.now place }
 {
     if bad_for(list, place.face) {
-        return Verdict::Refused(Refusal::BadList);
+        return Err(Refusal::BadList);
     }
     place.verdict()
 }
 
-// Where a place would stand among the records from one number up to another, found by halves.
-fn halve(list: &[u8], place: Place, from: usize, to: usize) -> usize
-    requires { (from ≤ to) × (16 * to ≤ length list.now) }
-    ensures { (result ≡ halved (λ n. before (record_at list.now n) place) (to - from) from to) × (result ≤ to) }
+// Where the numbers that lie low end, from one number up to another, found by halves as a slice's `partition_point` finds it. Public for the writer.
+pub fn halve<F: Fn(usize) -> bool>(from: usize, to: usize, is_low: F) -> usize
+    requires ordered { from ≤ to }
+    requires callable { (n : ℕ) → from ≤ n → n < to → F.pre is_low n }
+    ensures end { (low : ℕ → Bool) → ((n : ℕ) (b : Bool) → from ≤ n → n < to → F.post is_low n b → b ≡ low n) → result ≡ halved low (to - from) from to }
+    ensures within { result ≤ to }
 {
     let mut lo = from;
     let mut hi = to;
     while lo < hi {
         let mid = lo + (hi - lo) / 2;
-        if is_before(record_at(list, mid), place) {
+        if is_low(mid) {
             lo = mid + 1;
         } else {
             hi = mid;
@@ -172,25 +160,21 @@ fn sought_in(list: &[u8], place: Place) -> bool
 {
     let face = place.face;
     let end = end_of(list, face);
-    let at = halve(list, place, start_of(list, face), end);
+    let at = halve(
+        start_of(list, face),
+        end,
+        |n| is_before(record_at(list, n), place),
+    );
     if end <= at {
         return false;
     }
-    record_at(list, at).is_same(place)
+    record_at(list, at) == place
 }
 
 // Whether a place is in a list: looks only between the start of its face and that of the next.
-pub fn has(list: &[u8], place: Place) -> Listed
+pub fn has(list: &[u8], place: Place) -> Result<bool, Refusal>
     ensures { said_listed result ≡ has_reply list.now place }
 {
-    let verdict = has_verdict(list, place);
-    match verdict {
-        Verdict::Fine => {
-            if sought_in(list, place) {
-                return Listed::Yes;
-            }
-            Listed::No
-        }
-        Verdict::Refused(refusal) => Listed::Refused(refusal),
-    }
+    has_verdict(list, place)?;
+    Ok(sought_in(list, place))
 }

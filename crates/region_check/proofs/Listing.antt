@@ -9,12 +9,10 @@ use native.Mathlib.Decide.{dec_lt}
 use native.Mathlib.Omega.{arith}
 use borrow.Author.Tests.{eqb-true, eqb-false, ltb-true, ltb-false, lt-ltb, le-ltb}
 use lib.Dec.{eqb, ltb}
+use Rattle.std.specs.Prelude.{Ok, Err}
 use Rattle.reply.specs.Choice.{pick}
-use Rattle.reply.specs.declared.Verdict.{Verdict}
-use Rattle.reply.specs.declared.Verdict.TheVariants.{Fine, Refused}
-use Rattle.reply.specs.Replies.{answer, reply}
+use Rattle.reply.specs.Replies.{answer, reply, Verdict, fine, bit}
 use Rattle.reply.proofs.Entries.{both, answered}
-use Rattle.level.specs.Levels.{bit}
 use Rattle.faceijk.specs.declared.Place.{Place}
 use Rattle.faceijk.specs.Places.{same_place, Okay, place_verdict}
 use Rattle.faceijk.proofs.Taking.{fine_okay, okay_fine}
@@ -145,8 +143,8 @@ pub membership : (s : List ℕ) → passes s ≡ true → (q : Place) → has_re
 membership s e q = rw (good_for s (passed_all s e) q.face) (go (place_verdict q) refl)
   where
     go : (v : Verdict) → place_verdict q ≡ v → reply 1 v (bit (sought_in s q) ∷ []) ≡ reply 1 v (bit (listed s q) ∷ [])
-    go Fine f = ap (λ (b : Bool). reply 1 Fine (bit b ∷ [])) (sought_listed s (passed_all s e) q (fine_okay q f))
-    go (Refused r) f = refl
+    go (Ok _) f = ap (λ (b : Bool). reply 1 fine (bit b ∷ [])) (sought_listed s (passed_all s e) q (fine_okay q f))
+    go (Err r) f = refl
 
 -- ---- the same without tests: yes exactly when some record is the place
 

@@ -1,14 +1,14 @@
 -- The full check, and what reading every record says of a place.
-use Rattle.std.specs.Prelude.{Bool, ◌&&◌, not, List, [], ◌∷◌, ℕ, eqb}
-use Rattle.reply.specs.declared.Verdict.{Verdict}
+use Rattle.region_check.specs.declared.Facts.{Facts}
+use Rattle.reply.specs.declared.Refusal.{Refusal}
+use Rattle.std.specs.Prelude.{Bool, ◌&&◌, not, List, [], ◌∷◌, ℕ, eqb, Result}
 use Rattle.reply.specs.declared.Refusal.TheVariants.{BadList}
-use Rattle.reply.specs.Replies.{Reply, when, first, answer, refusal, reply}
-use Rattle.level.specs.Levels.{bit, bad_cell}
+use Rattle.reply.specs.Replies.{Reply, when, first, reply, Verdict, said, bit}
+use Rattle.level.specs.Levels.{bad_cell}
 use Rattle.faceijk.specs.declared.Place.{Place}
 use Rattle.faceijk.specs.Places.{same_place, place_verdict}
 use Rattle.region.specs.Places.{all_to, any_to}
 use Rattle.region.specs.Lists.{record_at, start_of, level_of, count_of, wrong_length}
-use Rattle.region_check.specs.declared.Checked.{Checked}
 use Rattle.region_check.specs.Sound.{faces_of, sound_to}
 use Rattle.region_check.specs.Starts.{begins, splits}
 
@@ -31,9 +31,8 @@ passes s = not (wrong_length s) && (sound_to (record_at s) (count_of s) && (star
 abbrev pub check_verdict : List ℕ → Verdict
 check_verdict s = first (when (not (passes s)) BadList ∷ [])
 
-abbrev pub said_checked : Checked → Reply
-said_checked (Checked.Done f) = answer (f.level ∷ f.count ∷ [])
-said_checked (Checked.Refused r) = refusal 2 r
+abbrev pub said_checked : Result Facts Refusal → Reply
+said_checked = said 2 (λ f. f.level ∷ f.count ∷ [])
 
 abbrev pub check_reply : List ℕ → Reply
 check_reply s = reply 2 (check_verdict s) (level_of s ∷ count_of s ∷ [])

@@ -1,40 +1,30 @@
 // The full check of a region list: its length, its records in order, the twenty starts, the level.
 #![tactic(auto)]
 
-ghost use Rattle.std.specs.Prelude.{◌≡◌, ◌||◌, ◌+◌, ◌-◌, ◌*◌, ◌≤◌, ◌<◌, ltb, leb, eqb, length};
+ghost use Rattle.std.specs.Prelude.{◌≡◌, ◌||◌, ℕ, ◌+◌, ◌-◌, ◌*◌, ◌≤◌, ◌<◌, ltb, leb, eqb, length};
 ghost use Rattle.region.specs.Lists.{record_at, start_of, level_of, count_of};
-ghost use Rattle.region_check.specs.Sound.{wrong_place, follows as followsOf, sound_at, sound_to};
+ghost use Rattle.region_check.specs.Sound.{wrong_place, follows as followsOf, sound_to};
 ghost use Rattle.region_check.specs.Starts.{splits};
 ghost use Rattle.region_check.specs.Checks.{face_at, starts_split, passes as passesOf, said_checked, check_reply};
 
 use faceijk::Place;
 use level::CellLevel;
-use reply::{Refusal, Verdict};
+use reply::Refusal;
 
 // What a list that passes says of itself.
-#[derive(Clone, Copy)]
+#[derive(Clone, Copy, Debug, PartialEq, Eq)]
 pub struct Facts {
     pub level: u32,
     pub count: u32,
 }
 
-#[derive(Clone, Copy)]
-pub enum Checked {
-    Done(Facts),
-    Refused(Refusal),
-}
-
 fn wrong_place(p: Place) -> bool
     ensures { result ≡ wrong_place p }
 {
-    let verdict = p.verdict();
-    match verdict {
-        Verdict::Fine => false,
-        Verdict::Refused(_) => true,
-    }
+    p.verdict().is_err()
 }
 
-// Whether a place may stand at number n after the one before it. Public, with the next one, for the writer.
+// Whether a place may stand at number n after the one before it. Public, with the next one, for the crates above.
 pub fn follows(n: usize, last: Place, here: Place) -> bool
     ensures { result ≡ followsOf n last here }
 {
@@ -47,35 +37,17 @@ pub fn follows(n: usize, last: Place, here: Place) -> bool
     region::is_before(last, here)
 }
 
-// The number before n; 0 stays.
-pub fn previous(n: usize) -> usize
-    ensures { result ≡ n - 1 }
+// Whether the places with the numbers below a count, each given by its number, stand in order and none is wrong.
+pub fn all_sound<F: Fn(usize) -> Place>(count: usize, place_at: F) -> bool
+    requires { (n : ℕ) → n < count → F.pre place_at n }
+    ensures { (at : ℕ → Place) → ((n : ℕ) (p : Place) → n < count → F.post place_at n p → p ≡ at n) → result ≡ sound_to at count }
 {
-    if n == 0 {
-        return 0;
-    }
-    n - 1
-}
-
-fn sound_at(list: &[u8], n: usize) -> bool
-    requires { 16 * n + 16 ≤ length list.now }
-    ensures { result ≡ sound_at (record_at list.now) n }
-{
-    let last = region::record_at(list, previous(n));
-    let here = region::record_at(list, n);
-    follows(n, last, here)
-}
-
-fn all_sound(list: &[u8], count: usize) -> bool
-    requires { 16 * count ≤ length list.now }
-    ensures { result ≡ sound_to (record_at list.now) count }
-{
-    let mut n = 0;
-    while n < count {
-        if !sound_at(list, n) {
+    for n in 0..count {
+        let last = place_at(n.saturating_sub(1));
+        let here = place_at(n);
+        if !follows(n, last, here) {
             return false;
         }
-        n += 1;
     }
     true
 }
@@ -117,14 +89,7 @@ fn starts_split(list: &[u8], count: usize) -> bool
     requires { (length list.now ≡ 88 + 16 * count) × (count ≡ count_of list.now) }
     ensures { result ≡ starts_split list.now }
 {
-    let mut face = 0;
-    while face < 20 {
-        if !start_splits(list, face, count) {
-            return false;
-        }
-        face += 1;
-    }
-    true
+    (0..20).all(|face| start_splits(list, face, count))
 }
 
 fn level_of(list: &[u8]) -> u32
@@ -141,20 +106,20 @@ fn passes(list: &[u8]) -> bool
         return false;
     }
     let count = region::count_of(list);
-    if !all_sound(list, count) {
+    if !all_sound(count, |n| region::record_at(list, n)) {
         return false;
     }
     starts_split(list, count) & !(CellLevel::FINEST < level_of(list))
 }
 
 // The level and the count of a list that passes.
-pub fn check(list: &[u8]) -> Checked
+pub fn check(list: &[u8]) -> Result<Facts, Refusal>
     ensures { said_checked result ≡ check_reply list.now }
 {
     if !passes(list) {
-        return Checked::Refused(Refusal::BadList);
+        return Err(Refusal::BadList);
     }
-    Checked::Done(Facts {
+    Ok(Facts {
         level: level_of(list),
         count: region::count_of(list) as u32,
     })

@@ -1,5 +1,4 @@
--- Laws of `region_write`: signed numbers, the room, where faces begin, bytes put one after the other, and that check and writer determine each other.
-pub mod Signed
+-- Laws of `region_write`: the room, where faces begin, bytes put one after the other, and that check and writer determine each other.
 pub mod Room
 pub mod Beginning
 pub mod Putting

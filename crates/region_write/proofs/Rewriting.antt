@@ -8,8 +8,7 @@ use lib.IntN.{ℤ, pos}
 use lib.ListN.{length, get_or, drop}
 use lib.Seq.{get_or-drop, get_or-take}
 use borrow.Author.Tests.{le-ltb, eq-eqb}
-use Rattle.reply.specs.declared.Verdict.TheVariants.{Fine}
-use Rattle.reply.specs.Replies.{answer}
+use Rattle.reply.specs.Replies.{answer, fine}
 use Rattle.faceijk.specs.declared.Place.{Place}
 use Rattle.words.specs.Words.{word_bytes}
 use Rattle.words.specs.Rows.{rows_to}
@@ -83,13 +82,13 @@ module _ (s : List ℕ) (low : (k : ℕ) → get_or s k 0 < 256) (pass : passes 
   unfolding bad_records
   records_right = rw (le-ltb 2147483647 (row_count (rows_of s)) (omega (arith, counted, p.is_long.few)), sound)
 
-  fine : (out : List ℕ) → length out ≡ length s → write_verdict (level_of s) (rows_of s) (length out) ≡ Fine
-  fine out e = rw (room_right (length out) e, records_right, le-ltb 15 (level_of s) p.level)
+  written : (out : List ℕ) → length out ≡ length s → write_verdict (level_of s) (rows_of s) (length out) ≡ fine
+  written out e = rw (room_right (length out) e, records_right, le-ltb 15 (level_of s) p.level)
 
   -- A list that passes is what the writer makes of its records and its level, in any output of its length.
   pub rewritten : (out : List ℕ) → length out ≡ length s → write_outcome (level_of s) (rows_of s) out ≡ record { said = answer []; bytes = s }
   rewritten out e =
       sym
-      (write_answers (level_of s) (rows_of s) out s (fine out e)
+      (write_answers (level_of s) (rows_of s) out s (written out e)
       (sym (canonical s low pass)
       ∙ rw counted (file_same (record_at s) (place_in (rows_of s)) (count_of s) (level_of s) (λ n l. sym (row_back (record_at s) (count_of s) n l)))))

@@ -3,34 +3,24 @@
 
 ghost use Rattle.std.specs.Prelude.{◌≡◌, true, false, ◌++◌, ◌+◌, ◌-◌, ◌*◌, ◌/◌, ◌≤◌, ◌<◌, length};
 ghost use Rattle.std.proofs.lemmas.List.Edits.{sets};
-ghost use Rattle.reply.specs.Replies.{verdict_number};
 ghost use Rattle.words.specs.Words.{word_bytes};
 ghost use Rattle.words.specs.Rows.{Filled};
-ghost use Rattle.region_check.specs.Sound.{faces_of, sound_at, sound_to};
+ghost use Rattle.region_check.specs.Sound.{faces_of, sound_to};
 ghost use Rattle.region_check.specs.Starts.{begins};
-ghost use Rattle.region_write.specs.Signed.{natural_of, number_in, place_in};
+ghost use Rattle.region_write.specs.Signed.{number_in, place_in};
 ghost use Rattle.region_write.specs.Files.{place_bytes, start_bytes, tail_bytes};
 ghost use Rattle.region_write.specs.Writing.{bad_room, bad_records, write_verdict, said_written, write_outcome};
 
 use faceijk::Place;
 use level::CellLevel;
-use reply::{Refusal, Verdict};
+use reply::Refusal;
 
 // A number below 0 becomes the largest one, which is no face and no coordinate.
-fn natural(x: i32) -> u32
-    ensures { result ≡ natural_of x }
-{
-    if x < 0 {
-        return 4294967295;
-    }
-    x as u32
-}
-
 fn number_in(rows: &[i32], at: usize) -> u32
     requires { at < length rows.now }
     ensures { result ≡ number_in rows.now at }
 {
-    natural(rows[at])
+    u32::try_from(rows[at]).unwrap_or(u32::MAX)
 }
 
 fn place_in(rows: &[i32], n: usize) -> Place
@@ -44,29 +34,6 @@ fn place_in(rows: &[i32], n: usize) -> Place
         j: number_in(rows, at + 2),
         k: number_in(rows, at + 3),
     }
-}
-
-fn row_sound(rows: &[i32], n: usize) -> bool
-    requires { 4 * n + 4 ≤ length rows.now }
-    ensures { result ≡ sound_at (place_in rows.now) n }
-{
-    let last = place_in(rows, region_check::previous(n));
-    let here = place_in(rows, n);
-    region_check::follows(n, last, here)
-}
-
-fn rows_sound(rows: &[i32], count: usize) -> bool
-    requires { 4 * count ≤ length rows.now }
-    ensures { result ≡ sound_to (place_in rows.now) count }
-{
-    let mut n = 0;
-    while n < count {
-        if !row_sound(rows, n) {
-            return false;
-        }
-        n += 1;
-    }
-    true
 }
 
 // Written so that no product can overflow.
@@ -87,17 +54,17 @@ fn bad_records(rows: &[i32]) -> bool
     if region::MOST < count {
         return true;
     }
-    !rows_sound(rows, count)
+    !region_check::all_sound(count, |n| place_in(rows, n))
 }
 
-fn write_verdict(level: CellLevel, rows: &[i32], outs: usize) -> Verdict
-    ensures { verdict_number result ≡ verdict_number (write_verdict level.0 rows.now outs) }
+fn write_verdict(level: CellLevel, rows: &[i32], outs: usize) -> Result<(), Refusal>
+    ensures { result ≡ write_verdict level.0 rows.now outs }
 {
     if bad_room(rows.len(), outs) {
-        return Verdict::Refused(Refusal::BadRows);
+        return Err(Refusal::BadRows);
     }
     if bad_records(rows) {
-        return Verdict::Refused(Refusal::BadList);
+        return Err(Refusal::BadList);
     }
     level.verdict()
 }
@@ -123,10 +90,8 @@ fn put_places(rows: &[i32], out: &mut [u8])
     ensures { Filled 16 (λ n. place_bytes (place_in rows.now n)) (length rows.now / 4) out.old out.new }
 {
     let count = rows.len() / 4;
-    let mut row = 0usize;
-    while row < count {
+    for row in 0..count {
         put_place(out, region::RECORD * row, place_in(rows, row));
-        row += 1;
     }
 }
 
@@ -135,17 +100,7 @@ fn begin_of(rows: &[i32], count: usize, face: u32) -> usize
     requires { (4 * count ≤ length rows.now) × (sound_to (place_in rows.now) count ≡ true) × (face ≤ 20) }
     ensures { (result ≡ begins (faces_of (place_in rows.now)) count face) × (result ≤ count) }
 {
-    let mut lo = 0;
-    let mut hi = count;
-    while lo < hi {
-        let mid = lo + (hi - lo) / 2;
-        if place_in(rows, mid).face < face {
-            lo = mid + 1;
-        } else {
-            hi = mid;
-        }
-    }
-    lo
+    region::halve(0, count, |n| place_in(rows, n).face < face)
 }
 
 fn put_starts(rows: &[i32], count: usize, out: &mut [u8])
@@ -153,36 +108,29 @@ fn put_starts(rows: &[i32], count: usize, out: &mut [u8])
     requires count_bound { (count ≤ 2147483647) × (80 ≤ length out.old) }
     ensures { Filled 4 (start_bytes (place_in rows.now) count) 20 out.old out.new }
 {
-    let mut face = 0u32;
-    while face < 20 {
+    for face in 0..20 {
         let start = begin_of(rows, count, face);
         words::put_word(out, 4 * (face as usize), start as u32);
-        face += 1;
     }
 }
 
-fn put_tail(level: u32, rows: &[i32], count: usize, out: &mut [u8])
+fn put_tail(level: CellLevel, rows: &[i32], count: usize, out: &mut [u8])
     requires count_in_bounds { (4 * count ≤ length rows.now) × (sound_to (place_in rows.now) count ≡ true) }
     requires count_bound { (count ≤ 2147483647) × (length out.old ≡ 88) }
-    ensures { out.new ≡ tail_bytes (place_in rows.now) count level }
+    ensures { out.new ≡ tail_bytes (place_in rows.now) count level.0 }
 {
     put_starts(rows, count, out);
-    put_pair(out, 80, level, count as u32);
+    put_pair(out, 80, level.0, count as u32);
 }
 
 // Writes the list of sorted rows; a refused call writes nothing.
-pub fn write(level: CellLevel, rows: &[i32], out: &mut [u8]) -> Verdict
+pub fn write(level: CellLevel, rows: &[i32], out: &mut [u8]) -> Result<(), Refusal>
     ensures { record { said = said_written result; bytes = out.new } ≡ write_outcome level.0 rows.now out.old }
 {
-    let verdict = write_verdict(level, rows, out.len());
-    match verdict {
-        Verdict::Fine => {
-            let count = rows.len() / 4;
-            let end = region::RECORD * count;
-            put_places(rows, out);
-            put_tail(level.0, rows, count, &mut out[end..]);
-            Verdict::Fine
-        }
-        Verdict::Refused(refusal) => Verdict::Refused(refusal),
-    }
+    write_verdict(level, rows, out.len())?;
+    let count = rows.len() / 4;
+    let end = region::RECORD * count;
+    put_places(rows, out);
+    put_tail(level, rows, count, &mut out[end..]);
+    Ok(())
 }

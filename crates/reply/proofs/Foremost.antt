@@ -4,12 +4,11 @@ use mathlib.Core.Bool.{Bool, true, false, true≢false}
 use mathlib.Core.List.{List, [], ◌∷◌}
 use Prim.Native.Nat.{ℕ, zero, suc, ◌≤◌}
 use native.Mathlib.Omega.{arith}
+use Rattle.std.specs.Prelude.{Ok, Err}
 use Rattle.reply.specs.declared.Refusal.{Refusal}
 use Rattle.reply.specs.declared.Refusal.TheVariants.{BadFrame, BadRows, BadFace, BadLevel, BadRange, BadNumber, OffSphere, Behind, TooFar, NotReduced, OutOfFace, NotAdjacent, NoCrossing, BadLine, BadList}
-use Rattle.reply.specs.declared.Verdict.{Verdict}
-use Rattle.reply.specs.declared.Verdict.TheVariants.{Fine, Refused}
 use Rattle.reply.specs.Choice.{pick}
-use Rattle.reply.specs.Replies.{number_of, Reason, first}
+use Rattle.reply.specs.Replies.{number_of, Verdict, Reason, first}
 use Rattle.reply.specs.Order.{order, rank_of, Each, Found, here, later, Foremost, Ascending}
 use Rattle.reply.proofs.Numbers.{same_number}
 
@@ -20,10 +19,10 @@ none_below n m (x ∷ rs) l a = (λ t. omega arith, none_below (rank_of x.refusa
 
 module _ (x : Reason) (rs : List Reason) where
   rest : (v : Verdict) → Foremost rs v → x.applies ≡ false → Foremost (x ∷ rs) v
-  rest Fine s f = (f, s)
-  rest (Refused r) s f = (later s.0, (λ t. absurd (true≢false (sym t ∙ f)), s.1))
+  rest (Ok _) s f = (f, s)
+  rest (Err r) s f = (later s.0, (λ t. absurd (true≢false (sym t ∙ f)), s.1))
 
-  chosen : (b : Bool) → x.applies ≡ b → Ascending (rank_of x.refusal) rs → Foremost rs (first rs) → Foremost (x ∷ rs) (pick b (Refused x.refusal) (first rs))
+  chosen : (b : Bool) → x.applies ≡ b → Ascending (rank_of x.refusal) rs → Foremost rs (first rs) → Foremost (x ∷ rs) (pick b (Err x.refusal) (first rs))
   chosen true e a s = (here e refl, (λ t. omega arith, none_below (rank_of x.refusal) (rank_of x.refusal) rs (omega arith) a))
   chosen false e a s = rest (first rs) s e
 
@@ -77,10 +76,10 @@ none_found r (x ∷ rs) (later f) h = none_found r rs f h.1
 
 -- What is foremost among reasons, however they are listed, is one.
 pub one_foremost : (rs : List Reason) (v w : Verdict) → Foremost rs v → Foremost rs w → v ≡ w
-one_foremost rs Fine Fine f g = refl
-one_foremost rs Fine (Refused s) f g = absurd (none_found s rs g.0 f)
-one_foremost rs (Refused r) Fine f g = absurd (none_found r rs f.0 g)
-one_foremost rs (Refused r) (Refused s) f g =
+one_foremost rs (Ok _) (Ok _) f g = refl
+one_foremost rs (Ok _) (Err s) f g = absurd (none_found s rs g.0 f)
+one_foremost rs (Err r) (Ok _) f g = absurd (none_found r rs f.0 g)
+one_foremost rs (Err r) (Err s) f g =
     let low = found_at (λ t. rank_of r ≤ rank_of t) s rs g.0 f.1 in
     let high = found_at (λ t. rank_of s ≤ rank_of t) r rs f.0 g.1 in
-    ap Refused (same_rank r s (omega arith))
+    ap Err (same_rank r s (omega arith))

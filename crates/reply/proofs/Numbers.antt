@@ -3,11 +3,10 @@ use mathlib.Core.Path.{◌≡◌, refl, sym, ap, ◌∙◌}
 use mathlib.Core.List.{List, [], ◌∷◌}
 use Prim.Native.Nat.{ℕ, zero, suc, ◌≤◌, ◌<◌}
 use native.Mathlib.Omega.{arith}
+use Rattle.std.specs.Prelude.{Ok, Err}
 use Rattle.reply.specs.declared.Refusal.{Refusal}
 use Rattle.reply.specs.declared.Refusal.TheVariants.{BadFrame, BadRows, BadFace, BadLevel, BadRange, BadNumber, OffSphere, Behind, TooFar, NotReduced, OutOfFace, NotAdjacent, NoCrossing, BadLine, BadList}
-use Rattle.reply.specs.declared.Verdict.{Verdict}
-use Rattle.reply.specs.declared.Verdict.TheVariants.{Fine, Refused}
-use Rattle.reply.specs.Replies.{number_of, verdict_number}
+use Rattle.reply.specs.Replies.{number_of, Verdict, verdict_number}
 
 nth : List Refusal → ℕ → Refusal
 nth [] n = BadLine
@@ -78,7 +77,7 @@ number_low BadList = omega arith
 
 -- Two verdicts with one number are one.
 pub same_verdict : {a b : Verdict} → verdict_number a ≡ verdict_number b → a ≡ b
-same_verdict {a = Fine} {b = Fine} e = refl
-same_verdict {a = Fine} {b = Refused r} e = absurd (omega (arith, number_pos r))
-same_verdict {a = Refused r} {b = Fine} e = absurd (omega (arith, number_pos r))
-same_verdict {a = Refused r} {b = Refused s} e = ap Refused (same_number r s e)
+same_verdict {a = Ok _} {b = Ok _} e = refl
+same_verdict {a = Ok _} {b = Err r} e = absurd (omega (arith, number_pos r))
+same_verdict {a = Err r} {b = Ok _} e = absurd (omega (arith, number_pos r))
+same_verdict {a = Err r} {b = Err s} e = ap Err (same_number r s e)

@@ -1,10 +1,8 @@
 -- Which refusal is given if several apply: the foremost in one order. Document 01 has that of the numbers; document 02 gives the later ones places of their own.
-use Rattle.std.specs.Prelude.{◌≡◌, true, false, List, [], ◌∷◌, ℕ, suc, ◌≤◌, eqb}
+use Rattle.std.specs.Prelude.{◌≡◌, true, false, List, [], ◌∷◌, ℕ, suc, ◌≤◌, eqb, Ok, Err}
 use Rattle.reply.specs.Choice.{pick}
 use Rattle.reply.specs.declared.Refusal.{Refusal}
-use Rattle.reply.specs.declared.Verdict.{Verdict}
-use Rattle.reply.specs.declared.Verdict.TheVariants.{Fine, Refused}
-use Rattle.reply.specs.Replies.{number_of, Reason}
+use Rattle.reply.specs.Replies.{number_of, Verdict, Reason}
 
 -- The order of refusals, by their numbers: a line that cannot be read comes first, a bad list after bad rows and before a bad face.
 -- Later requests put theirs in here: 17 after 4, 16 after 10, 18 last.
@@ -32,8 +30,8 @@ pub data Found (r : Refusal) : List Reason → Type 0 where
 
 -- what the papers give, of reasons listed in any way: nothing where none applies, else one that applies and is foremost in the order
 abbrev pub Foremost : List Reason → Verdict → Type 0
-Foremost rs Fine = Each (λ (x : Reason). x.applies ≡ false) rs
-Foremost rs (Refused r) = Found r rs × Each (λ (x : Reason). x.applies ≡ true → rank_of r ≤ rank_of x.refusal) rs
+Foremost rs (Ok _) = Each (λ (x : Reason). x.applies ≡ false) rs
+Foremost rs (Err r) = Found r rs × Each (λ (x : Reason). x.applies ≡ true → rank_of r ≤ rank_of x.refusal) rs
 
 -- the reasons stand in the order, none before rank n
 abbrev pub Ascending : ℕ → List Reason → Type 0

@@ -2,55 +2,65 @@
 #![tactic(auto)]
 
 ghost use Rattle.std.specs.Prelude.{◌≡◌};
-ghost use Rattle.reply.specs.Replies.{number_of};
+ghost use Rattle.reply.specs.Replies.{number_of, name_of};
+
+use std::error::Error;
+use std::fmt;
 
 // One case a number. Requests that add numbers add their cases at the end, here and in `number_of`.
-#[derive(Clone, Copy)]
+#[derive(Clone, Copy, Debug, PartialEq, Eq)]
 pub enum Refusal {
-    BadFrame,
-    BadRows,
-    BadFace,
-    BadLevel,
-    BadRange,
-    BadNumber,
-    OffSphere,
-    Behind,
-    TooFar,
-    NotReduced,
-    OutOfFace,
-    NotAdjacent,
-    NoCrossing,
-    BadLine,
-    BadList,
+    BadFrame = 1,
+    BadRows = 2,
+    BadFace = 3,
+    BadLevel = 4,
+    BadRange = 5,
+    BadNumber = 6,
+    OffSphere = 7,
+    Behind = 8,
+    TooFar = 9,
+    NotReduced = 10,
+    OutOfFace = 11,
+    NotAdjacent = 12,
+    NoCrossing = 13,
+    BadLine = 14,
+    BadList = 15,
 }
 
-// What an entry's tests found.
-#[derive(Clone, Copy)]
-pub enum Verdict {
-    Fine,
-    Refused(Refusal),
+impl fmt::Display for Refusal {
+    fn fmt<W: fmt::Write>(&self, f: &mut fmt::Formatter<W>) -> fmt::Result {
+        f.write_str(self.name())
+    }
 }
+
+impl Error for Refusal {}
 
 impl Refusal {
+    pub fn name(self) -> &'static str
+        ensures { result.now ≡ name_of self }
+    {
+        match self {
+            Refusal::BadFrame => "BadFrame",
+            Refusal::BadRows => "BadRows",
+            Refusal::BadFace => "BadFace",
+            Refusal::BadLevel => "BadLevel",
+            Refusal::BadRange => "BadRange",
+            Refusal::BadNumber => "BadNumber",
+            Refusal::OffSphere => "OffSphere",
+            Refusal::Behind => "Behind",
+            Refusal::TooFar => "TooFar",
+            Refusal::NotReduced => "NotReduced",
+            Refusal::OutOfFace => "OutOfFace",
+            Refusal::NotAdjacent => "NotAdjacent",
+            Refusal::NoCrossing => "NoCrossing",
+            Refusal::BadLine => "BadLine",
+            Refusal::BadList => "BadList",
+        }
+    }
+
     pub fn number(self) -> u32
         ensures { result ≡ number_of self }
     {
-        match self {
-            Refusal::BadFrame => 1,
-            Refusal::BadRows => 2,
-            Refusal::BadFace => 3,
-            Refusal::BadLevel => 4,
-            Refusal::BadRange => 5,
-            Refusal::BadNumber => 6,
-            Refusal::OffSphere => 7,
-            Refusal::Behind => 8,
-            Refusal::TooFar => 9,
-            Refusal::NotReduced => 10,
-            Refusal::OutOfFace => 11,
-            Refusal::NotAdjacent => 12,
-            Refusal::NoCrossing => 13,
-            Refusal::BadLine => 14,
-            Refusal::BadList => 15,
-        }
+        self as u32
     }
 }

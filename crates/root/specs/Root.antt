@@ -1,15 +1,13 @@
 -- The square root of a double. Document 02, §1: "for any finite number from 0 up, the nearest double, minus zero kept, defined over whole numbers."
-use Rattle.std.specs.Prelude.{◌≡◌, Bool, true, false, not, ◌||◌, List, [], ◌∷◌, ℕ, zero, suc, ◌+◌, ◌*◌, ◌/◌, ◌^◌, ◌≤◌, ◌<◌, T, leb, Float}
+use Rattle.reply.specs.declared.Refusal.{Refusal}
+use Rattle.std.specs.Prelude.{◌≡◌, Bool, true, false, not, ◌||◌, List, [], ◌∷◌, ℕ, zero, suc, ◌+◌, ◌*◌, ◌/◌, ◌^◌, ◌≤◌, ◌<◌, T, leb, Float, Result}
 use Rattle.std.specs.Float.{binary64}
 use Rattle.std.specs.Float.Ieee.{fits, size, round, eq, lt, to_bits}
 use Rattle.reply.specs.Choice.{pick}
-use Rattle.reply.specs.declared.Verdict.{Verdict}
 use Rattle.reply.specs.declared.Refusal.TheVariants.{BadNumber}
-use Rattle.reply.specs.Replies.{Reply, Reason, when, first, answer, refusal, reply}
+use Rattle.reply.specs.Replies.{Reply, Reason, when, first, reply, Verdict, said}
 use Rattle.double.specs.Double.{nought, finite, size_of}
 use Rattle.double.specs.Sizes.{units_of}
-use Rattle.root.specs.declared.Rooted.{Rooted}
-use Rattle.root.specs.declared.Rooted.TheVariants.{Done, Refused}
 
 -- ---- the root of a whole number
 
@@ -66,9 +64,8 @@ root_reasons x = when (no_root x) BadNumber ∷ []
 abbrev pub root_verdict : Float → Verdict
 root_verdict x = first (root_reasons x)
 
-abbrev pub said_rooted : Rooted → Reply
-said_rooted (Done r) = answer (to_bits binary64 r ∷ [])
-said_rooted (Refused r) = refusal 1 r
+abbrev pub said_rooted : Result Float Refusal → Reply
+said_rooted = said 1 (λ r. to_bits binary64 r ∷ [])
 
 abbrev pub root_reply : Float → Reply
 root_reply x = reply 1 (root_verdict x) (to_bits binary64 (root_of x) ∷ [])

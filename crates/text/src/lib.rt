@@ -17,12 +17,9 @@ pub fn put_word(buf: &mut [u8], at: usize, word: &[u8]) -> usize
     requires { at + length word.now ≤ length buf.old }
     ensures { PutAt word.now buf.old buf.new at result }
 {
-    let mut i = 0;
-    while i < word.len() {
-        buf[at + i] = word[i];
-        i += 1;
-    }
-    at + i
+    let end = at + word.len();
+    buf[at..end].copy_from_slice(word);
+    end
 }
 
 // A number in decimal: at most 20 digits.

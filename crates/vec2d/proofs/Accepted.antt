@@ -6,7 +6,7 @@ use native.Mathlib.Omega.{arith}
 use lib.Dec.{lit≤}
 use lib.Ieee.{Float, binary64, of_bits, div, lt, le}
 use borrow.Author.Tests.{not-true, not-false}
-use Rattle.reply.specs.declared.Verdict.TheVariants.{Fine}
+use Rattle.reply.specs.Replies.{fine}
 use Rattle.reply.proofs.Entries.{passed, neither, both}
 use Rattle.double.specs.Double.{finite, size_of, whole_of, limit, rsin60, two}
 use Rattle.double.specs.Sizes.{Under, Upto}
@@ -24,7 +24,7 @@ unfolding of_bits
 part_near x f h = lt_under (2 ^ 25) x limit limit_value (lt_not_le (size_of x) limit (size_finite x f) refl ∙ ap not h)
 
 -- A point that rounding accepts has parts that are numbers up to 2^25 in size.
-pub accepted : (v : Vec2d) → round_verdict v ≡ Fine → Near v
+pub accepted : (v : Vec2d) → round_verdict v ≡ fine → Near v
 unfolding is_point too_far
 accepted v e =
     let p = passed (not (is_point v)) _ _ e in
@@ -40,7 +40,7 @@ part_inside x p q =
     let b = between_lt _ _ x p q in
     (b.0, not-true _ (sym (lt_not_le (size_of x) limit (size_finite x b.0) refl) ∙ b.1))
 
-pub inside_fine : (v : Vec2d) → inside v ≡ true → round_verdict v ≡ Fine
+pub inside_fine : (v : Vec2d) → inside v ≡ true → round_verdict v ≡ fine
 unfolding inside is_point too_far
 inside_fine v e =
     let a = both _ _ e in

@@ -8,7 +8,7 @@ use lib.Ieee.{Float, binary64, fits, of_bits, neg, sub, mul}
 use lib.Ieee.Exact.{HasValue}
 use lib.Ieee.Fits.{add-fits, sub-fits, mul-fits}
 use lib.Ieee.Positive.{num, den, den_pos}
-use Rattle.reply.specs.declared.Verdict.TheVariants.{Fine}
+use Rattle.reply.specs.Replies.{fine}
 use Rattle.double.specs.Double.{finite, one, two, left_of, mul_add_of, mul_add_once}
 use Rattle.double.specs.Sizes.{Upto}
 use Rattle.double.proofs.Nonnegative.{upto_le}
@@ -32,7 +32,7 @@ pub record Exact (v : Vec2d) : Type 0 where
   pub left2 : HasValue (quantized_of v).r2 false (num (x2_of v) % den (x2_of v)) (den (x2_of v))
 
 -- The whole parts and the leftovers of an accepted point are exact: nothing is rounded where they are taken apart.
-pub exact : (v : Vec2d) → round_verdict v ≡ Fine → Exact v
+pub exact : (v : Vec2d) → round_verdict v ≡ fine → Exact v
 unfolding quantized_of
 exact v e =
     let p = accepted v e in
@@ -44,7 +44,7 @@ exact v e =
     }
 
 -- Both leftovers of an accepted point are at least 0 and below 1, and a zero among them is plus zero.
-pub in_unit : (v : Vec2d) → round_verdict v ≡ Fine → InUnit (quantized_of v).r1 × InUnit (quantized_of v).r2
+pub in_unit : (v : Vec2d) → round_verdict v ≡ fine → InUnit (quantized_of v).r1 × InUnit (quantized_of v).r2
 unfolding quantized_of
 in_unit v e =
     let p = accepted v e in
@@ -59,7 +59,7 @@ unfolding neg of_bits
 minus_one = refl
 
 -- `mul_add(2.0, r1, -1.)` of the branches has the same bits rounded once or twice: 2·r1 is exact.
-pub once_or_twice : (v : Vec2d) → round_verdict v ≡ Fine →
+pub once_or_twice : (v : Vec2d) → round_verdict v ≡ fine →
     let r1 = (quantized_of v).r1 in
     mul_add_once two r1 (neg one) ≡ sub binary64 (mul binary64 two r1) one
 unfolding quantized_of mul_add_of sub

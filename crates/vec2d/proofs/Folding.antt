@@ -1,10 +1,9 @@
 -- The folds without numbers below zero: a triple a, b, c reduces as a - c, b - c, 0 does. Assumes nothing.
 use mathlib.Core.Path.{◌≡◌, refl, sym, ◌∙◌}
-use mathlib.Core.Bool.{Bool, true, false, not}
-use Prim.Native.Nat.{ℕ, ◌+◌, ◌-◌, ◌≤◌, ◌<◌, max}
+use mathlib.Core.Bool.{Bool, true, false}
+use Prim.Native.Nat.{ℕ, ◌+◌, ◌-◌, max}
 use native.Mathlib.Omega.{arith}
 use lib.IntN.{ℤ, pos, ◌-ℤ◌}
-use lib.Dec.{T, leb, leb→le, nleb→lt}
 use Rattle.reply.specs.Choice.{pick}
 use Rattle.coordijk.specs.declared.CoordIJK.{CoordIJK}
 use Rattle.coordijk.specs.Coordinates.{coord, least, reduced}
@@ -32,14 +31,6 @@ lifted false true i j = raise i 0 j _ _ refl (sym (from_nought j))
 lifted true true i j = raise j i (i + j) _ _ (less j i j) (sym (from_nought j) ∙ same 0 j i (i + j) (omega arith))
 
 -- ---- reducing the lifted triple without a branch
-
--- the greater of two, as a choice
-pub most_is : (i j : ℕ) → pick (leb i j) j i ≡ max i j
-most_is i j = go (leb i j) (leb→le i j) (nleb→lt i j)
-  where
-    go : (t : Bool) → (T t → i ≤ j) → (T (not t) → j < i) → pick t j i ≡ max i j
-    go true f g = omega (arith, f tt)
-    go false f g = omega (arith, g tt)
 
 red : (a b c i j k : ℕ) → i ≡ a - least a b c → j ≡ b - least a b c → k ≡ c - least a b c → coord i j k ≡ reduced a b c
 unfolding reduced

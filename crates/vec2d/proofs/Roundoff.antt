@@ -10,7 +10,7 @@ use lib.Ieee.{Float, nan, inf, fin, binary64, down, fits, round, of_bits, mul, d
 use lib.Ieee.Fits.{down_pos, mul-fits}
 use lib.Ieee.Exact.{HasValue, round_exact}
 use lib.Ieee.Scale.{grid, round_same}
-use Rattle.reply.specs.declared.Verdict.TheVariants.{Fine}
+use Rattle.reply.specs.Replies.{fine}
 use Rattle.double.specs.Double.{finite, size_of, rsin60, two}
 use Rattle.double.specs.Sizes.{Upto, units_of}
 use Rattle.double.proofs.Near.{Sharp, sharp}
@@ -211,8 +211,8 @@ halved x y H f u v i = go (units_of x) (top x (units_of x) L u v) (on_grid x f u
     by X m zero l h g i = low X (lt_of_le_of_lt (le_of_eq (h ∙ mul-one m)) g) i.near
     by X m (suc j) l h g i =
         let p = part m (2 ^ j) X (h ∙ ap (λ (n : ℕ). m * n) (pow-suc 2 j)) in
-        let fine : m * 2 ^ j < 2 ^ 2098 = lt_of_le_of_lt (le_trans p.0 l) (lit< tt) in
-        let exact : HasValue y false X (2 * L) = subst (λ (z : Float). HasValue z false X (2 * L)) (sym i.from) (round_exact binary64 false X (2 * L) m j (lit< tt) g fine (p.1 L)) in
+        let clear : m * 2 ^ j < 2 ^ 2098 = lt_of_le_of_lt (le_trans p.0 l) (lit< tt) in
+        let exact : HasValue y false X (2 * L) = subst (λ (z : Float). HasValue z false X (2 * L)) (sym i.from) (round_exact binary64 false X (2 * L) m j (lit< tt) g clear (p.1 L)) in
         same X (twice X H L L_pos (same_fraction y X (2 * L) H L exact i.value))
 
     go : (X : ℕ) → X ≤ (2 ^ 26 - 1) * L → OnGrid X → RoundsTo y X 2 H → Halved X H
@@ -248,5 +248,5 @@ module _ (v : Vec2d) (f : Held v) (p : Near v) where
       record { first = first_units y x2 (units_of half) (units_of v.x) (units_of (x1_of v)) t h x1_rounds.near; second = second_units y x2 t }
 
 -- The coordinates of an accepted point are the numbers that they stand for, but for their slack.
-pub roundoff : (v : Vec2d) → Held v → round_verdict v ≡ Fine → Roundoff v
+pub roundoff : (v : Vec2d) → Held v → round_verdict v ≡ fine → Roundoff v
 roundoff v f e = both v f (accepted v e)

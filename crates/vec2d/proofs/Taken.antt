@@ -4,7 +4,7 @@ use mathlib.Core.Bool.{Bool, true, false}
 use Prim.Native.Nat.{ℕ, ◌+◌, ◌^◌, ◌≤◌, ◌<◌, max}
 use native.Mathlib.Omega.{arith}
 use lib.Ieee.{lt}
-use Rattle.reply.specs.declared.Verdict.TheVariants.{Fine}
+use Rattle.reply.specs.Replies.{fine}
 use Rattle.double.specs.Double.{nought}
 use Rattle.coordijk.specs.Coordinates.{largest_of, reduced, not_reduced, Taken}
 use Rattle.coordijk.proofs.Reducing.{reduced_flat}
@@ -42,9 +42,9 @@ near_taken v p =
     (fold_taken (lt v.x nought) (lt v.y nought) _ _ (raised_le s.i q.m1 (first_whole v p)) (raised_le s.j q.m2 (second_whole v p)))
 
 -- Every accepted rounding gives a reduced triple with no coordinate above 2^26.
-pub rounded_taken : (v : Vec2d) → round_verdict v ≡ Fine → Taken (nearest_of v)
+pub rounded_taken : (v : Vec2d) → round_verdict v ≡ fine → Taken (nearest_of v)
 rounded_taken v e = near_taken v (accepted v e)
 
 -- So no later entry refuses it with 10.
-pub never_ten : (v : Vec2d) → round_verdict v ≡ Fine → not_reduced (nearest_of v) ≡ false
+pub never_ten : (v : Vec2d) → round_verdict v ≡ fine → not_reduced (nearest_of v) ≡ false
 never_ten v e = passes (nearest_of v) (rounded_taken v e)

@@ -9,7 +9,7 @@ use lib.IntN.{pos}
 use lib.Ieee.{Float, nan, inf, fin, binary64, fits, lt}
 use lib.Ieee.Exact.{HasValue}
 use lib.Ieee.Positive.{num, den, den_pos}
-use Rattle.reply.specs.declared.Verdict.TheVariants.{Fine}
+use Rattle.reply.specs.Replies.{fine}
 use Rattle.reply.specs.Choice.{pick}
 use Rattle.double.specs.Double.{nought}
 use Rattle.double.specs.Sizes.{Upto, units_of}
@@ -72,7 +72,7 @@ scaled : (b : Bool) (k d : ℕ) → pick b (k * d) 0 ≡ k * (d * bit b)
 scaled true k d = omega arith
 scaled false k d = omega arith
 
-module _ (v : Vec2d) (fine : round_verdict v ≡ Fine) where
+module _ (v : Vec2d) (clear : round_verdict v ≡ fine) where
   abbrev r1 : Float
   r1 = (quantized_of v).r1
 
@@ -90,11 +90,11 @@ module _ (v : Vec2d) (fine : round_verdict v ≡ Fine) where
 
   first : Parted (x1_of v) m1 r1
   unfolding quantized_of
-  first = let e = exact v fine in parted (x1_of v) r1 m1 (wide_first v (accepted v fine)) (fitting (x1_of v)) e.whole1 e.left1
+  first = let e = exact v clear in parted (x1_of v) r1 m1 (wide_first v (accepted v clear)) (fitting (x1_of v)) e.whole1 e.left1
 
   second : Parted (x2_of v) m2 r2
   unfolding quantized_of
-  second = let e = exact v fine in parted (x2_of v) r2 m2 (wide_second v (accepted v fine)) (fitting (x2_of v)) e.whole2 e.left2
+  second = let e = exact v clear in parted (x2_of v) r2 m2 (wide_second v (accepted v clear)) (fitting (x2_of v)) e.whole2 e.left2
 
   chosen_nearest : (d n1 n2 : ℕ) → HasValue r1 false n1 d → HasValue r2 false n2 d → n1 < d → n2 < d
       → Nearest d (m1 * d + n1) (m2 * d + n2) (pos (m1 + bit s.i)) (pos (m2 + bit s.j))

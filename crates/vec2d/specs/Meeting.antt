@@ -1,17 +1,15 @@
 -- Where two lines meet, by the formula of `Vec2d::intersection`.
-use Rattle.std.specs.Prelude.{Bool, not, ◌&&◌, ◌||◌, List, [], ◌∷◌, ℕ, ◌+◌, Float}
+use Rattle.reply.specs.declared.Refusal.{Refusal}
+use Rattle.std.specs.Prelude.{Bool, not, ◌&&◌, ◌||◌, List, [], ◌∷◌, ℕ, ◌+◌, Float, Ok, Err, Result}
 use Rattle.std.specs.Float.{binary64}
 use Rattle.std.specs.Float.Ieee.{sub, mul, div, neg, eq}
 use Rattle.reply.specs.Choice.{pick}
-use Rattle.reply.specs.declared.Verdict.{Verdict}
 use Rattle.reply.specs.declared.Refusal.TheVariants.{BadNumber, NoCrossing}
-use Rattle.reply.specs.Replies.{Reason, when, first, Reply, reply}
+use Rattle.reply.specs.Replies.{Reason, when, first, Reply, reply, Verdict}
 use Rattle.double.specs.Double.{nought, mul_add_of}
 use Rattle.vec2d.specs.declared.Vec2d.{Vec2d}
 use Rattle.vec2d.specs.declared.Line.{Line}
 use Rattle.vec2d.specs.declared.Crossing.{Crossing}
-use Rattle.vec2d.specs.declared.Pointed.{Pointed}
-use Rattle.vec2d.specs.declared.Pointed.TheVariants.{Done, Refused}
 use Rattle.vec2d.specs.Points.{point, point_at, is_point, point_values}
 
 -- the line of four doubles that stand in a list from a number on: x and y of its from and its to
@@ -47,8 +45,8 @@ crossing_of a b =
 abbrev pub no_crossing : Crossing → Bool
 no_crossing c = eq c.divisor nought || not (is_point c.at)
 
-unfoldable pub met_of : Crossing → Pointed
-met_of c = pick (no_crossing c) (Refused NoCrossing) (Done c.at)
+unfoldable pub met_of : Crossing → Result Vec2d Refusal
+met_of c = pick (no_crossing c) (Err NoCrossing) (Ok c.at)
 
 abbrev pub meet_reasons : Line → Line → List Reason
 meet_reasons a b = when (not (is_line a && is_line b)) BadNumber ∷ when (no_crossing (crossing_of a b)) NoCrossing ∷ []

@@ -1,6 +1,7 @@
 -- Document 02, §6: the centre that rounding chooses is the nearest, but for 2^-40. It is said over whole numbers, in the coordinates x1, x2 before folding.
 -- These are rounded themselves, and how far is another matter: Roundoff.
-use Rattle.std.specs.Prelude.{ℕ, ◌+◌, ◌*◌, ◌^◌, ◌<◌, false, ℤ, pos, ◌+ℤ◌, ◌-ℤ◌, ◌*ℤ◌, ◌≤ℤ◌, Float}
+use Rattle.reply.specs.declared.Refusal.{Refusal}
+use Rattle.std.specs.Prelude.{ℕ, ◌+◌, ◌*◌, ◌^◌, ◌<◌, false, ℤ, pos, ◌+ℤ◌, ◌-ℤ◌, ◌*ℤ◌, ◌≤ℤ◌, Float, Ok, Err, Result}
 use Rattle.std.specs.Float.Ieee.{lt}
 use Rattle.std.specs.Float.Ieee.Exact.{HasValue}
 use Rattle.double.specs.Double.{nought}
@@ -8,8 +9,6 @@ use Rattle.coordijk.specs.declared.CoordIJK.{CoordIJK}
 use Rattle.coordijk.specs.Signed.{Signed}
 use Rattle.vec2d.specs.declared.Vec2d.{Vec2d}
 use Rattle.vec2d.specs.declared.Found.{Found}
-use Rattle.vec2d.specs.declared.Rounded.{Rounded}
-use Rattle.vec2d.specs.declared.Rounded.TheVariants.{Done, Refused}
 use Rattle.vec2d.specs.Rounding.{x1_of, x2_of, quantized_of, folded}
 
 -- a² + b² - ab: the squared distance, since a centre lies at x = i - j/2 and y = j·sin 60° (`squared_distance` of proofs/Measures)
@@ -51,6 +50,6 @@ pub record Trusted (v : Vec2d) (f : Found) : Type 0 where
       Nearest (2 ^ 1074) ((quantized_of v).m1 * 2 ^ 1074 + first.n) ((quantized_of v).m2 * 2 ^ 1074 + second.n) h.i h.j
 
 -- the same of the entry's answer
-abbrev pub Shown : Vec2d → Rounded → Type 0
-Shown v (Done f) = Trusted v f
-Shown v (Refused r) = Unit
+abbrev pub Shown : Vec2d → Result Found Refusal → Type 0
+Shown v (Ok f) = Trusted v f
+Shown v (Err r) = Unit

@@ -1,12 +1,11 @@
 -- Plane points: which are numbers, a point as a reply's values, and a point in a list of doubles.
-use Rattle.std.specs.Prelude.{Bool, ◌&&◌, List, [], ◌∷◌, ℕ, ◌+◌, Float, get_or}
+use Rattle.reply.specs.declared.Refusal.{Refusal}
+use Rattle.std.specs.Prelude.{Bool, ◌&&◌, List, [], ◌∷◌, ℕ, ◌+◌, Float, get_or, Result}
 use Rattle.std.specs.Float.{binary64, nan}
 use Rattle.std.specs.Float.Ieee.{to_bits}
-use Rattle.reply.specs.Replies.{Reply, answer, refusal}
+use Rattle.reply.specs.Replies.{Reply, said}
 use Rattle.double.specs.Double.{finite}
 use Rattle.vec2d.specs.declared.Vec2d.{Vec2d}
-use Rattle.vec2d.specs.declared.Pointed.{Pointed}
-use Rattle.vec2d.specs.declared.Pointed.TheVariants.{Done, Refused}
 
 abbrev pub point : Float → Float → Vec2d
 point x y = record { x = x; y = y }
@@ -24,6 +23,5 @@ abbrev pub point_values : Vec2d → List ℕ
 point_values v = to_bits binary64 v.x ∷ to_bits binary64 v.y ∷ []
 
 -- an answer that is a point, in the paper's numbers
-abbrev pub said_pointed : Pointed → Reply
-said_pointed (Done v) = answer (point_values v)
-said_pointed (Refused r) = refusal 2 r
+abbrev pub said_pointed : Result Vec2d Refusal → Reply
+said_pointed = said 2 point_values

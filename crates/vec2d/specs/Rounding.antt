@@ -1,11 +1,11 @@
 -- From a plane point to a hexagon and what is left over, operation by operation.
-use Rattle.std.specs.Prelude.{Bool, true, false, not, ◌&&◌, ◌||◌, List, [], ◌∷◌, ◌++◌, ℕ, ◌+◌, ◌^◌, ℤ, pos, neg_ℤ, ◌-ℤ◌, Float}
+use Rattle.reply.specs.declared.Refusal.{Refusal}
+use Rattle.std.specs.Prelude.{Bool, true, false, not, ◌&&◌, ◌||◌, List, [], ◌∷◌, ◌++◌, ℕ, ◌+◌, ◌^◌, ℤ, pos, neg_ℤ, ◌-ℤ◌, Float, Result}
 use Rattle.std.specs.Float.{binary64}
 use Rattle.std.specs.Float.Ieee.{of_bits, to_bits, add, sub, mul, div, lt, le}
 use Rattle.reply.specs.Choice.{pick}
-use Rattle.reply.specs.declared.Verdict.{Verdict}
 use Rattle.reply.specs.declared.Refusal.TheVariants.{BadNumber, TooFar}
-use Rattle.reply.specs.Replies.{Reason, when, first, Reply, answer, refusal, reply}
+use Rattle.reply.specs.Replies.{Reason, when, first, Reply, reply, Verdict, said}
 use Rattle.double.specs.Double.{nought, half, one, two, three, rsin60, limit, size_of, whole_of, left_of}
 use Rattle.double.specs.Sizes.{Under}
 use Rattle.coordijk.specs.declared.CoordIJK.{CoordIJK}
@@ -16,8 +16,6 @@ use Rattle.vec2d.specs.declared.Quantized.{Quantized}
 use Rattle.vec2d.specs.declared.Leftovers.{Leftovers}
 use Rattle.vec2d.specs.declared.Found.{Found}
 use Rattle.vec2d.specs.declared.Steps.{Steps}
-use Rattle.vec2d.specs.declared.Rounded.{Rounded}
-use Rattle.vec2d.specs.declared.Rounded.TheVariants.{Done, Refused}
 use Rattle.vec2d.specs.Points.{is_point}
 
 -- TooFar: size of x or y is 2^25 or more
@@ -137,9 +135,8 @@ abbrev pub found_values : Found → List ℕ
 found_values c = coord_values c.hexagon ++ left_values c.left
 
 -- the entry, in the paper's numbers: a refusal has zeros for the leftovers too
-abbrev pub said_rounded : Rounded → Reply
-said_rounded (Done c) = answer (found_values c)
-said_rounded (Refused r) = refusal 5 r
+abbrev pub said_rounded : Result Found Refusal → Reply
+said_rounded = said 5 found_values
 
 abbrev pub round_reply : Vec2d → Reply
 round_reply v = reply 5 (round_verdict v) (found_values (found_of v))

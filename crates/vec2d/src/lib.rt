@@ -11,52 +11,33 @@ ghost use Rattle.vec2d.specs.Meeting.{along, divisor_of, share_of, reached_of, c
 ghost use Rattle.vec2d.specs.Closeness.{within, close, said_alike, alike_reply};
 
 use coordijk::CoordIJK;
-use reply::{Refusal, Verdict};
+use reply::Refusal;
+use std::hint;
 
-#[derive(Clone, Copy)]
+#[derive(Clone, Copy, Debug, PartialEq)]
 pub struct Vec2d {
     pub x: f64,
     pub y: f64,
 }
 
-#[derive(Clone, Copy)]
+#[derive(Clone, Copy, Debug, PartialEq)]
 pub struct Line {
     pub from: Vec2d,
     pub to: Vec2d,
 }
 
 // What is left of a point's two coordinates without their whole parts: each at least 0 and below 1.
-#[derive(Clone, Copy)]
+#[derive(Clone, Copy, Debug, PartialEq)]
 pub struct Leftovers {
     pub r1: f64,
     pub r2: f64,
 }
 
 // The hexagon of a point, and the leftovers by which it was chosen.
-#[derive(Clone, Copy)]
+#[derive(Clone, Copy, Debug, PartialEq)]
 pub struct Found {
     pub hexagon: CoordIJK,
     pub left: Leftovers,
-}
-
-#[derive(Clone, Copy)]
-pub enum Rounded {
-    Done(Found),
-    Refused(Refusal),
-}
-
-// A plane point, or why there is none: the answer of the centre and of the meeting.
-#[derive(Clone, Copy)]
-pub enum Pointed {
-    Done(Vec2d),
-    Refused(Refusal),
-}
-
-#[derive(Clone, Copy)]
-pub enum Alike {
-    Yes,
-    No,
-    Refused(Refusal),
 }
 
 // The whole parts m1, m2 of a point's two coordinates and the leftovers r1, r2.
@@ -69,7 +50,7 @@ struct Quantized {
 }
 
 // Whether the hexagon is one past the whole part, in either coordinate. Public for the margin.
-#[derive(Clone, Copy)]
+#[derive(Clone, Copy, Debug, PartialEq, Eq)]
 pub struct Steps {
     pub i: bool,
     pub j: bool,
@@ -83,7 +64,7 @@ struct Axial {
 }
 
 // What the meeting formula gives: its divisor, and the point.
-#[derive(Clone, Copy)]
+#[derive(Clone, Copy, Debug, PartialEq)]
 pub struct Crossing {
     pub divisor: f64,
     pub at: Vec2d,
@@ -96,13 +77,13 @@ impl Steps {
         Steps { i, j }
     }
 
-    // One of two, as sums of tests: no branch is taken, so none is guessed wrong.
+    // One of two, field by field: no branch is taken, so none is guessed wrong.
     fn either(yes: bool, a: Steps, b: Steps) -> Steps
         ensures { result ≡ pick yes a b }
     {
         Steps {
-            i: (yes & a.i) | (!yes & b.i),
-            j: (yes & a.j) | (!yes & b.j),
+            i: hint::select_unpredictable(yes, a.i, b.i),
+            j: hint::select_unpredictable(yes, a.j, b.j),
         }
     }
 }
@@ -121,13 +102,6 @@ pub fn chosen(r1: f64, r2: f64) -> Steps
         Steps::either(r1 < 1.0 / 3.0, below_third, below_half),
         Steps::either(r1 < 2.0 / 3.0, below_two_thirds, rest),
     )
-}
-
-// One of two numbers.
-fn either(yes: bool, a: u32, b: u32) -> u32
-    ensures { result ≡ pick yes a b }
-{
-    if yes { a } else { b }
 }
 
 // m, or the next number where `up` says so.
@@ -150,15 +124,15 @@ impl Axial {
         let i = self.i;
         let j = self.j;
         // x < 0: j - i, j, 0. With j taken off that is -i, 0, -j, and reduced with the greater of i and j added.
-        let most = either(i <= j, j, i);
-        let first = either(left, most - i, i);
-        let second = either(left, most, j);
-        let third = either(left, most - j, 0);
+        let most = i.max(j);
+        let first = hint::select_unpredictable(left, most - i, i);
+        let second = hint::select_unpredictable(left, most, j);
+        let third = hint::select_unpredictable(left, most - j, 0);
         // y < 0: i - j, -j, 0. With j added that is i, 0, j: the last two change places, after the other fold too.
         CoordIJK::new(
             first,
-            either(down, third, second),
-            either(down, second, third),
+            hint::select_unpredictable(down, third, second),
+            hint::select_unpredictable(down, second, third),
         )
     }
 }
@@ -203,21 +177,21 @@ impl Vec2d {
             & (-Vec2d::LIMIT < self.y)
     }
 
-    fn verdict(self) -> Verdict
+    fn verdict(self) -> Result<(), Refusal>
         ensures { result ≡ round_verdict self }
     {
         if self.is_inside() {
-            return Verdict::Fine;
+            return Ok(());
         }
         let bad = !self.is_point();
         let far = self.is_far();
         if bad {
-            return Verdict::Refused(Refusal::BadNumber);
+            return Err(Refusal::BadNumber);
         }
         if far {
-            return Verdict::Refused(Refusal::TooFar);
+            return Err(Refusal::TooFar);
         }
-        Verdict::Fine
+        Ok(())
     }
 
     // Whole parts and leftovers together.
@@ -256,20 +230,17 @@ impl Vec2d {
     }
 
     // The hexagon and the leftovers of the point x, y. The two stand apart, so that they come in registers: a point read back from memory at once costs a third more.
-    fn rounded(x: f64, y: f64) -> Rounded
+    fn rounded(x: f64, y: f64) -> Result<Found, Refusal>
         ensures replies { said_rounded result ≡ round_reply (point x y) }
         ensures shown { Shown (point x y) result }
     {
         let at = Vec2d::new(x, y);
-        let verdict = at.verdict();
-        match verdict {
-            Verdict::Fine => Rounded::Done(at.nearest()),
-            Verdict::Refused(refusal) => Rounded::Refused(refusal),
-        }
+        at.verdict()?;
+        Ok(at.nearest())
     }
 
     // The hexagon that holds the point, `From<Vec2d> for CoordIJK` of the source, and the leftovers that its branches saw. Its centre is shown to be the nearest.
-    pub fn to_ijk(self) -> Rounded
+    pub fn to_ijk(self) -> Result<Found, Refusal>
         ensures replies { said_rounded result ≡ round_reply self }
         ensures shown { Shown self result }
     {
@@ -287,14 +258,11 @@ impl Vec2d {
     }
 
     // The centre of a hexagon.
-    pub fn centre(c: CoordIJK) -> Pointed
+    pub fn centre(c: CoordIJK) -> Result<Vec2d, Refusal>
         ensures { said_pointed result ≡ centre_reply c }
     {
-        let verdict = c.verdict();
-        match verdict {
-            Verdict::Fine => Pointed::Done(Vec2d::from_ijk(c)),
-            Verdict::Refused(refusal) => Pointed::Refused(refusal),
-        }
+        c.verdict()?;
+        Ok(Vec2d::from_ijk(c))
     }
 
     // Whether both parts differ by at most the tolerance, of any two points; boundaries use it.
@@ -305,16 +273,13 @@ impl Vec2d {
     }
 
     // Near-equality of two points.
-    pub fn alike(self, other: Vec2d) -> Alike
+    pub fn alike(self, other: Vec2d) -> Result<bool, Refusal>
         ensures { said_alike result ≡ alike_reply self other }
     {
         if self.is_point() & other.is_point() {
-            if self.is_close(other) {
-                return Alike::Yes;
-            }
-            return Alike::No;
+            return Ok(self.is_close(other));
         }
-        Alike::Refused(Refusal::BadNumber)
+        Err(Refusal::BadNumber)
     }
 }
 
@@ -345,17 +310,17 @@ fn reached(p: Vec2d, s: Vec2d, t: f64) -> Vec2d
 
 impl Crossing {
     // The point, unless the divisor is zero or a result is not finite. Boundaries use it.
-    pub fn met(self) -> Pointed
+    pub fn met(self) -> Result<Vec2d, Refusal>
         ensures { result ≡ met_of self }
     {
         let at = self.at;
         if self.divisor == 0.0 {
-            return Pointed::Refused(Refusal::NoCrossing);
+            return Err(Refusal::NoCrossing);
         }
         if at.is_point() {
-            return Pointed::Done(at);
+            return Ok(at);
         }
-        Pointed::Refused(Refusal::NoCrossing)
+        Err(Refusal::NoCrossing)
     }
 }
 
@@ -387,12 +352,12 @@ impl Line {
     }
 
     // Where two lines meet.
-    pub fn meet(self, other: Line) -> Pointed
+    pub fn meet(self, other: Line) -> Result<Vec2d, Refusal>
         ensures { said_pointed result ≡ meet_reply self other }
     {
         if self.is_line() & other.is_line() {
             return self.crossing(other).met();
         }
-        Pointed::Refused(Refusal::BadNumber)
+        Err(Refusal::BadNumber)
     }
 }

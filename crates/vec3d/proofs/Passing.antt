@@ -10,7 +10,7 @@ use lib.Dec.{eqb}
 use lib.ListN.{length, get_or}
 use lib.Ieee.{Float, nan}
 use borrow.Author.Tests.{eqb-true, not-false}
-use Rattle.reply.specs.declared.Verdict.TheVariants.{Fine}
+use Rattle.reply.specs.Replies.{fine}
 use Rattle.reply.specs.declared.Refusal.TheVariants.{BadNumber, OffSphere}
 use Rattle.reply.proofs.Entries.{neither, passed}
 use Rattle.double.specs.Double.{finite}
@@ -26,23 +26,23 @@ none_at test (suc n) k e h =
     let e' = neither (some_below test n) (test n) e in
     ⊎_elim (λ q. subst (λ (i : ℕ). test i ≡ false) (sym q) e'.1) (none_at test n k e'.0) (eq-or-lt_of_le (le_of_suc-le-suc h))
 
-module _ (s : List Float) (fine : bad_frame s ≡ false) where
+module _ (s : List Float) (clear : bad_frame s ≡ false) where
   -- A frame that has passed has 180 numbers.
   pub passed_long : length s ≡ 180
   unfolding bad_frame
-  passed_long = eqb-true _ _ (not-false _ (neither (not (eqb (length s) 180)) _ fine).0)
+  passed_long = eqb-true _ _ (not-false _ (neither (not (eqb (length s) 180)) _ clear).0)
 
   -- Each of its faces has passed.
   pub passed_face : (f : ℕ) → f < 20 → bad_axes s f ≡ false
   unfolding bad_frame
   passed_face f h =
-      none_at (bad_axes s) 20 f (neither (non_finite s) (some_below (bad_axes s) 20) (neither (not (eqb (length s) 180)) _ fine).1).1 h
+      none_at (bad_axes s) 20 f (neither (non_finite s) (some_below (bad_axes s) 20) (neither (not (eqb (length s) 180)) _ clear).1).1 h
 
   -- Each of its numbers is finite.
   pub passed_number : (k : ℕ) → k < 180 → finite (get_or s k nan) ≡ true
   unfolding bad_frame non_finite
   passed_number k h =
-      let numbers = (neither (non_finite s) (some_below (bad_axes s) 20) (neither (not (eqb (length s) 180)) _ fine).1).0 in
+      let numbers = (neither (non_finite s) (some_below (bad_axes s) 20) (neither (not (eqb (length s) 180)) _ clear).1).0 in
       not-false _ (none_at (λ (n : ℕ). not (finite (get_or s n nan))) (length s) k numbers (omega (arith, passed_long)))
 
   -- So none of its vectors has a bad number.
@@ -51,8 +51,8 @@ module _ (s : List Float) (fine : bad_frame s ≡ false) where
   passed_vector at h =
       rw (passed_number at (omega arith), passed_number (at + 1) (omega arith), passed_number (at + 2) (omega arith))
 
--- A vector whose verdict is fine has finite parts and is on the sphere.
-pub passed_both : (p : Vec3d) → vector_verdict p ≡ Fine → (bad_number p ≡ false) × (off_sphere p ≡ false)
+-- A vector whose verdict is clear has finite parts and is on the sphere.
+pub passed_both : (p : Vec3d) → vector_verdict p ≡ fine → (bad_number p ≡ false) × (off_sphere p ≡ false)
 passed_both p e =
     let q = passed (bad_number p) BadNumber _ e in
-    (q.0, (passed (off_sphere p) OffSphere Fine q.1).0)
+    (q.0, (passed (off_sphere p) OffSphere fine q.1).0)

@@ -1,10 +1,9 @@
 -- How the code asks: definitions in its own shape, for the promises of inner functions. No entry's promise cites one, and a law ties each to the paper's
 -- definition: `OnePass.by_faces` the test of a face, `Doubt.no_doubt` the look before it, `Choosing.by_pairs` and `nearest_held` the search.
+use Rattle.reply.specs.Replies.{fine}
 use Rattle.std.specs.Prelude.{◌≡◌, Bool, false, not, ◌&&◌, ◌||◌, List, ℕ, suc, ◌<◌, get_or, Float}
 use Rattle.std.specs.Float.{nan, binary64}
 use Rattle.std.specs.Float.Ieee.{of_bits, sub, le, lt}
-use Rattle.reply.specs.Choice.{pick}
-use Rattle.reply.specs.declared.Verdict.TheVariants.{Fine}
 use Rattle.double.specs.Double.{one, three}
 use Rattle.vec3d.specs.declared.Vec3d.{Vec3d}
 use Rattle.vec3d.specs.declared.Nearest.{Nearest}
@@ -51,10 +50,6 @@ doubtful s f =
     let a = face_at s f in
     not (lt (dot_of a.u a.u) nine && lt (dot_of a.v a.v) nine && near_one (dot_of a.centre a.centre))
 
--- either of the two, part by part where it is asked closely
-abbrev pub fails : Bool → List Float → ℕ → Bool
-fails closely s f = pick closely (unfit s f) (doubtful s f)
-
 -- ---- the search
 
 -- the nearer one of a face and the next
@@ -70,4 +65,4 @@ pub record Distances (s : List Float) (p : Vec3d) (far : List Float) : Type 0 wh
 
 -- what is known of a face before the frame and the vector are tested: it is the nearest if both pass
 abbrev pub NearestIf : List Float → Vec3d → Nearest → Type 0
-NearestIf s p n = bad_frame s ≡ false → vector_verdict p ≡ Fine → n ≡ nearest_to s p 19
+NearestIf s p n = bad_frame s ≡ false → vector_verdict p ≡ fine → n ≡ nearest_to s p 19

@@ -1,15 +1,13 @@
 -- The face nearest to a vector. Document 01: "Strictly smaller wins, so ties go to the lowest face. It returns face and distance."
-use Rattle.std.specs.Prelude.{List, [], ◌∷◌, ℕ, zero, suc, Float}
+use Rattle.reply.specs.declared.Refusal.{Refusal}
+use Rattle.std.specs.Prelude.{List, [], ◌∷◌, ℕ, zero, suc, Float, Result}
 use Rattle.std.specs.Float.{binary64}
 use Rattle.std.specs.Float.Ieee.{lt, to_bits}
 use Rattle.reply.specs.Choice.{pick}
-use Rattle.reply.specs.declared.Verdict.{Verdict}
 use Rattle.reply.specs.declared.Refusal.TheVariants.{BadFrame}
-use Rattle.reply.specs.Replies.{Reply, Reason, when, first, answer, refusal, reply}
+use Rattle.reply.specs.Replies.{Reply, Reason, when, first, reply, Verdict, said}
 use Rattle.vec3d.specs.declared.Vec3d.{Vec3d}
 use Rattle.vec3d.specs.declared.Nearest.{Nearest}
-use Rattle.vec3d.specs.declared.NearestFace.{NearestFace}
-use Rattle.vec3d.specs.declared.NearestFace.TheVariants.{Done, Refused}
 use Rattle.vec3d.specs.Vectors.{dot_of, minus_of, vector_reasons}
 use Rattle.vec3d.specs.Frame.{face_at, bad_frame}
 
@@ -39,9 +37,8 @@ nearest_verdict s p = first (nearest_reasons s p)
 abbrev pub nearest_values : Nearest → List ℕ
 nearest_values n = n.face ∷ to_bits binary64 n.distance ∷ []
 
-abbrev pub said_nearest : NearestFace → Reply
-said_nearest (Done n) = answer (nearest_values n)
-said_nearest (Refused r) = refusal 2 r
+abbrev pub said_nearest : Result Nearest Refusal → Reply
+said_nearest = said 2 nearest_values
 
 abbrev pub nearest_reply : List Float → Vec3d → Reply
 nearest_reply s p = reply 2 (nearest_verdict s p) (nearest_values (nearest_to s p 19))

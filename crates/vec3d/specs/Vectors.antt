@@ -2,9 +2,8 @@
 use Rattle.std.specs.Prelude.{Bool, not, ◌&&◌, ◌||◌, List, [], ◌∷◌, Float}
 use Rattle.std.specs.Float.{binary64}
 use Rattle.std.specs.Float.Ieee.{sub, mul, le, lt}
-use Rattle.reply.specs.declared.Verdict.{Verdict}
 use Rattle.reply.specs.declared.Refusal.TheVariants.{BadNumber, OffSphere}
-use Rattle.reply.specs.Replies.{Reason, when, first}
+use Rattle.reply.specs.Replies.{Reason, when, first, Verdict}
 use Rattle.double.specs.Double.{finite, size_of, mul_add_of, three, sphere_low, sphere_high}
 use Rattle.vec3d.specs.declared.Vec3d.{Vec3d}
 

@@ -1,18 +1,17 @@
 // Unit vectors, the lent frame of twenty faces, and the face that is nearest to a vector: the face choice of the source's `vec3d.rs`.
 #![tactic(auto)]
 
-ghost use Rattle.std.specs.Prelude.{◌≡◌, true, false, ℕ, ◌+◌, ◌*◌, ◌≤◌, ◌<◌, length};
-ghost use Rattle.reply.specs.declared.Verdict.TheVariants.{Fine};
-ghost use Rattle.reply.specs.Replies.{verdict_number};
+ghost use Rattle.std.specs.Prelude.{◌≡◌, Bool, true, false, ℕ, ◌+◌, ◌*◌, ◌≤◌, ◌<◌, length};
+ghost use Rattle.reply.specs.Replies.{fine};
 ghost use Rattle.double.specs.Double.{finite};
 ghost use Rattle.vec3d.specs.Vectors.{dot_of, minus_of, bad_number, off_sphere, vector_verdict};
 ghost use Rattle.vec3d.specs.Frame.{vec_at, face_at, some_below, bad_frame};
 ghost use Rattle.vec3d.specs.Nearest.{distance_of, closer_of, nearest_by, nearest_to, said_nearest, nearest_reply};
-ghost use Rattle.vec3d.specs.AsAsked.{narrow, loose, unfit, near_one, doubtful, fails, pair_of, distance_at, Distances, NearestIf};
+ghost use Rattle.vec3d.specs.AsAsked.{narrow, loose, unfit, near_one, doubtful, pair_of, distance_at, Distances, NearestIf};
 
-use reply::{Refusal, Verdict};
+use reply::Refusal;
 
-#[derive(Clone, Copy)]
+#[derive(Clone, Copy, Debug, PartialEq)]
 pub struct Vec3d {
     pub x: f64,
     pub y: f64,
@@ -20,7 +19,7 @@ pub struct Vec3d {
 }
 
 // What the frame holds of a face: its centre, the tangent u along its i-axis, and v, u turned a quarter counterclockwise.
-#[derive(Clone, Copy)]
+#[derive(Clone, Copy, Debug, PartialEq)]
 pub struct FaceAxes {
     pub centre: Vec3d,
     pub u: Vec3d,
@@ -28,16 +27,10 @@ pub struct FaceAxes {
 }
 
 // A face, and the squared distance of its centre.
-#[derive(Clone, Copy)]
+#[derive(Clone, Copy, Debug, PartialEq)]
 pub struct Nearest {
     pub face: u32,
     pub distance: f64,
-}
-
-#[derive(Clone, Copy)]
-pub enum NearestFace {
-    Done(Nearest),
-    Refused(Refusal),
 }
 
 // What one look at a frame gives: whether a face is doubtful, and the nearest one.
@@ -113,16 +106,16 @@ impl Vec3d {
     }
 
     // Whether this is a unit vector: a BadNumber comes before an OffSphere. A vector on the sphere has no bad number, so that one test is enough for it.
-    pub fn verdict(self) -> Verdict
-        ensures { verdict_number result ≡ verdict_number (vector_verdict self) }
+    pub fn verdict(self) -> Result<(), Refusal>
+        ensures { result ≡ vector_verdict self }
     {
         if self.off_sphere() {
             if self.bad_number() {
-                return Verdict::Refused(Refusal::BadNumber);
+                return Err(Refusal::BadNumber);
             }
-            return Verdict::Refused(Refusal::OffSphere);
+            return Err(Refusal::OffSphere);
         }
-        Verdict::Fine
+        Ok(())
     }
 }
 
@@ -151,10 +144,7 @@ fn unfit(frame: &[f64], face: u32) -> bool
     requires { 9 * face + 9 ≤ length frame.now }
     ensures { result ≡ unfit frame.now face }
 {
-    let axes = face_at(frame, face);
-    let centre = axes.centre;
-    let u = axes.u;
-    let v = axes.v;
+    let FaceAxes { centre, u, v } = face_at(frame, face);
     u.loose() | v.loose() | centre.off_sphere()
 }
 
@@ -171,37 +161,20 @@ fn doubtful(frame: &[f64], face: u32) -> bool
     requires { 9 * face + 9 ≤ length frame.now }
     ensures { result ≡ doubtful frame.now face }
 {
-    let axes = face_at(frame, face);
-    let centre = axes.centre;
-    let u = axes.u;
-    let v = axes.v;
+    let FaceAxes { centre, u, v } = face_at(frame, face);
     !((u.dot(u) < Vec3d::WIDEST_SQUARE)
         & (v.dot(v) < Vec3d::WIDEST_SQUARE)
         & is_unit(centre.dot(centre)))
 }
 
-// Closely, part by part, a face fails where it is unfit; else where it is doubtful.
-fn fails(frame: &[f64], face: u32, closely: bool) -> bool
-    requires { 9 * face + 9 ≤ length frame.now }
-    ensures { result ≡ fails closely frame.now face }
-{
-    if closely {
-        unfit(frame, face)
-    } else {
-        doubtful(frame, face)
-    }
-}
-
-// One pass over the faces finds what is not finite too.
-fn some_fails(frame: &[f64], closely: bool) -> bool
-    requires { length frame.now ≡ 180 }
-    ensures { result ≡ some_below (fails closely frame.now) 20 }
+// One pass over the faces finds what is not finite too. All twenty are looked at: a loop that ends at the first that fails is slower on a good frame.
+fn some_fails<F: Fn(u32) -> bool>(fails: F) -> bool
+    requires { (face : ℕ) → face < 20 → F.pre fails face }
+    ensures { (test : ℕ → Bool) → ((face : ℕ) (b : Bool) → face < 20 → F.post fails face b → b ≡ test face) → result ≡ some_below test 20 }
 {
     let mut found = false;
-    let mut face = 0u32;
-    while face < 20 {
-        found = found | fails(frame, face, closely);
-        face += 1;
+    for face in 0..20 {
+        found |= fails(face);
     }
     found
 }
@@ -214,8 +187,8 @@ pub fn bad_frame(frame: &[f64]) -> bool
     if frame.len() != 180 {
         return true;
     }
-    if some_fails(frame, false) {
-        return some_fails(frame, true);
+    if some_fails(|face| doubtful(frame, face)) {
+        return some_fails(|face| unfit(frame, face));
     }
     false
 }
@@ -248,10 +221,8 @@ fn distances(frame: &[f64], p: Vec3d) -> [f64; 20]
     ensures { Distances frame.now p result }
 {
     let mut far = [0.0; 20];
-    let mut face = 0u32;
-    while face < 20 {
+    for face in 0..20 {
         far[face as usize] = distance_to(frame, face, p);
-        face += 1;
     }
     far
 }
@@ -275,12 +246,9 @@ fn least(far: [f64; 20]) -> Nearest
     ensures { ((k : ℕ) → k < 20 → finite (distance_at far k) ≡ true) → result ≡ nearest_by (distance_at far) 19 }
 {
     let mut best = pair_at(far, 0);
-    let mut last = 1u32;
-    while last < 19 {
-        let face = last + 1;
-        let pair = pair_at(far, face);
+    for half in 1..10 {
+        let pair = pair_at(far, 2 * half);
         best = best.closer(pair.face, pair.distance);
-        last = face + 1;
     }
     best
 }
@@ -289,7 +257,7 @@ fn least(far: [f64; 20]) -> Nearest
 // Public for `locate`, which tests frame and vector itself.
 pub fn nearest_of(frame: &[f64], p: Vec3d) -> Nearest
     requires { bad_frame frame.now ≡ false }
-    ensures { vector_verdict p ≡ Fine → result ≡ nearest_to frame.now p 19 }
+    ensures { vector_verdict p ≡ fine → result ≡ nearest_to frame.now p 19 }
 {
     least(distances(frame, p))
 }
@@ -301,11 +269,9 @@ fn look(frame: &[f64], p: Vec3d) -> Looked
 {
     let mut far = [0.0; 20];
     let mut doubt = false;
-    let mut face = 0u32;
-    while face < 20 {
-        doubt = doubt | doubtful(frame, face);
+    for face in 0..20 {
+        doubt |= doubtful(frame, face);
         far[face as usize] = distance_to(frame, face, p);
-        face += 1;
     }
     Looked {
         doubt,
@@ -314,22 +280,19 @@ fn look(frame: &[f64], p: Vec3d) -> Looked
 }
 
 // The face nearest to a unit vector, and its squared distance. As in `bad_frame`, only a frame with a doubtful face is tested part by part.
-pub fn nearest_face(frame: &[f64], p: Vec3d) -> NearestFace
+pub fn nearest_face(frame: &[f64], p: Vec3d) -> Result<Nearest, Refusal>
     ensures { said_nearest result ≡ nearest_reply frame.now p }
 {
     if frame.len() != 180 {
-        return NearestFace::Refused(Refusal::BadFrame);
+        return Err(Refusal::BadFrame);
     }
     let looked = look(frame, p);
     let nearest = looked.nearest;
     if looked.doubt {
-        if some_fails(frame, true) {
-            return NearestFace::Refused(Refusal::BadFrame);
+        if some_fails(|face| unfit(frame, face)) {
+            return Err(Refusal::BadFrame);
         }
     }
-    let verdict = p.verdict();
-    match verdict {
-        Verdict::Fine => NearestFace::Done(nearest),
-        Verdict::Refused(refusal) => NearestFace::Refused(refusal),
-    }
+    p.verdict()?;
+    Ok(nearest)
 }

@@ -7,6 +7,7 @@ use native.Mathlib.Nat.{not-suc-le-zero}
 use native.Mathlib.Omega.{arith}
 use lib.ListN.{length, take, drop, length-append, take-append-drop}
 use lib.Seq.{length-take-le}
+use Rattle.std.specs.Prelude.{Some, None}
 use Rattle.walk_lines.specs.declared.Line.{Line}
 use Rattle.reply.specs.declared.Refusal.TheVariants.{BadLine}
 use Rattle.walk_lines.specs.Lines.{line_text, refused_line}
@@ -14,7 +15,6 @@ use Rattle.walk_question.specs.declared.Question.{Question}
 use Rattle.walk_question.specs.Reading.{Asks}
 use Rattle.walk_question.proofs.Asking.{reads, malformed, as_read, one_reading}
 use Rattle.walk.specs.declared.State.{State}
-use Rattle.walk.specs.declared.Step.{Step}
 use Rattle.walk.specs.declared.Written.{Written}
 use Rattle.walk.specs.Texts.{text_of, step_of, question_text, reading_text, input_text, begun_from, Begins}
 use Rattle.walk.specs.Writing.{Lines, none, more, Stopped, ended, full, Wrote, Calls, uncalled, called, Repeated, until}
@@ -55,7 +55,7 @@ module _ {s : State} {old new : List ℕ} {w : Written} (o : Wrote s old new w) 
   too_small z = ap (λ (n : ℕ). drop n new) (sym z) ∙ (o.begun.kept ∙ ap (λ (n : ℕ). drop n old) z)
 
 -- a stop in a room of 70 bytes is the end
-stopped_ended : {n : ℕ} {s : State} → Stopped n s → 70 ≤ n → step_of s ≡ Step.End
+stopped_ended : {n : ℕ} {s : State} → Stopped n s → 70 ≤ n → step_of s ≡ None
 stopped_ended (ended e) h = e
 stopped_ended (full e a b) h = absurd (omega arith)
 
@@ -97,13 +97,12 @@ one_lines : {s m k : State} {n : ℕ} {bs cs : List ℕ} → Lines s n bs m → 
 one_lines none none = (refl, refl)
 one_lines (more {bs = bs} {m = m} {after = a} {line = x} l e) (more {bs = cs} {m = k} {after = b} {line = y} r f) =
     let i = one_lines l r in
-    let t : Step.Next x a ≡ Step.Next y b = sym e ∙ (ap step_of i.1 ∙ f) in
-    let u : x ≡ y = cc in
-    let v : a ≡ b = cc in
-    ((λ n. i.0 n ++ line_text (u n)), v)
+    let t : Some (x, a) ≡ Some (y, b) = sym e ∙ (ap step_of i.1 ∙ f) in
+    let p : ◌≡◌ {A = Line × State} (x, a) (y, b) = cc in
+    ((λ n. i.0 n ++ line_text (p n).0), λ n. (p n).1)
 
 -- where fewer lines stop, the next line is among the further ones
-further : {s m k : State} {n j : ℕ} {bs cs : List ℕ} → Lines s n bs m → Lines s j cs k → n < j → (line : Line) × (after : State) × (step_of m ≡ Step.Next line after) × (length bs + length (line_text line) ≤ length cs)
+further : {s m k : State} {n j : ℕ} {bs cs : List ℕ} → Lines s n bs m → Lines s j cs k → n < j → (line : Line) × (after : State) × (step_of m ≡ Some (line, after)) × (length bs + length (line_text line) ≤ length cs)
 further {n = n} l none h = absurd (not-suc-le-zero h)
 further {s = s} {n = n} {bs = bs} l (more {n = j} {bs = cs} {m = mid} {after = b} {line = y} r f) h =
     elim (dec_lt n j) [
@@ -120,14 +119,14 @@ further {s = s} {n = n} {bs = bs} l (more {n = j} {bs = cs} {m = mid} {after = b
 no_further : {s m k : State} {n j p : ℕ} {bs cs : List ℕ} → Lines s n bs m → Lines s j cs k → Stopped (p - length bs) m → length cs ≤ p → n < j → ⊥
 no_further l r (ended e) fits h =
     let f = further l r h in
-    let t : Step.End ≡ Step.Next f.0 f.1 = sym e ∙ f.2 in
+    let t : None ≡ Some (f.0, f.1) = sym e ∙ f.2 in
     let z : ◌≡◌ {A = ℕ} 0 1 = cc in
     omega arith
 no_further l r (full {line = x} {after = a} e b c) fits h =
     let f = further l r h in
-    let t : Step.Next x a ≡ Step.Next f.0 f.1 = sym e ∙ f.2 in
-    let u : x ≡ f.0 = cc in
-    omega (arith, f.3, ap (λ (y : Line). length (line_text y)) u)
+    let t : Some (x, a) ≡ Some (f.0, f.1) = sym e ∙ f.2 in
+    let p : ◌≡◌ {A = Line × State} (x, a) (f.0, f.1) = cc in
+    omega (arith, f.3, ap (λ (q : Line × State). length (line_text q.0)) p)
 
 same_buffer : (n : ℕ) (a b : List ℕ) → take n a ≡ take n b → drop n a ≡ drop n b → a ≡ b
 same_buffer n a b t d = sym (take-append-drop n a) ∙ ((λ i. t i ++ d i) ∙ take-append-drop n b)

@@ -6,8 +6,9 @@ use native.Mathlib.Decide.{dec_lt}
 use native.Mathlib.Omega.{arith}
 use lib.ListN.{length, replicate, length-append, length-replicate}
 use lib.Seq.{take-append_seam}
+use Rattle.walk_lines.specs.declared.Line.{Line}
+use Rattle.std.specs.Prelude.{Option, Some, None}
 use Rattle.walk.specs.declared.State.{State}
-use Rattle.walk.specs.declared.Step.{Step}
 use Rattle.walk_lines.specs.Lines.{line_text}
 use Rattle.walk.specs.Texts.{text_of, step_of}
 use Rattle.walk.specs.Writing.{Lines, none, more, ended, Wrote, Calls, uncalled, called, Repeated, until}
@@ -19,16 +20,16 @@ pub record Ended (s : State) : Type 0 where
   pub count : ℕ
   pub last : State
   pub lines : Lines s count (text_of s) last
-  pub end : step_of last ≡ Step.End
+  pub end : step_of last ≡ None
 
 -- one line more, if there is one: what is left of the text falls with it
-on : {s m : State} {n : ℕ} {bs : List ℕ} → Lines s n bs m → (x : Step) → x ≡ step_of m
+on : {s m : State} {n : ℕ} {bs : List ℕ} → Lines s n bs m → (x : Option (Line × State)) → x ≡ step_of m
     → ((k : ℕ) (cs : List ℕ) (after : State) → length (text_of after) < length (text_of m) → Lines s k cs after → Ended s) → Ended s
-on {s} {m} {n} {bs} l Step.End e again =
+on {s} {m} {n} {bs} l None e again =
     let nothing : text_of m ≡ [] = text_step m ∙ ap text_of_step (sym e) in
     let all : bs ≡ text_of s = sym (lines_text l ∙ (ap (λ (x : List ℕ). bs ++ x) nothing ∙ append-nil bs)) in
     record { count = n; last = m; lines = subst (λ (x : List ℕ). Lines s n x m) all l; end = sym e }
-on {s} {m} l (Step.Next line after) e again =
+on {s} {m} l (Some (line, after)) e again =
     let is = ap length (text_step m ∙ ap text_of_step (sym e)) in
     again _ _ after (omega (arith, is, length-append (line_text line) (text_of after), line_some line)) (more l (sym e))
 
@@ -40,7 +41,7 @@ ends : (s : State) → Ended s
 ends s = goes (length (text_of s) + 1) (omega arith) none
 
 -- a call that writes nothing where nothing is left
-idle : (m : State) (buffer : List ℕ) → step_of m ≡ Step.End → Wrote m buffer buffer (record { state = m; len = 0 })
+idle : (m : State) (buffer : List ℕ) → step_of m ≡ None → Wrote m buffer buffer (record { state = m; len = 0 })
 idle m buffer e =
     record { begun = record { count = 0; lines = none; within = omega arith; kept = refl; same = refl }; stopped = ended e }
 

@@ -7,8 +7,9 @@ use native.Mathlib.Decide.{dec_lt}
 use native.Mathlib.Omega.{arith}
 use lib.Dec.{ltb}
 use borrow.Author.Tests.{lt-ltb, le-ltb}
-use Rattle.reply.specs.declared.Verdict.{Verdict}
-use Rattle.reply.specs.declared.Verdict.TheVariants.{Fine, Refused}
+use Rattle.walk_lines.specs.declared.Line.{Line}
+use Rattle.reply.specs.Replies.{Verdict, fine}
+use Rattle.std.specs.Prelude.{Ok, Err, Option, Some, None}
 use Rattle.faceijk.specs.declared.Place.{Place}
 use Rattle.faceijk.specs.Places.{sum_at, on_grid_verdict}
 use Rattle.faceijk.specs.Crossing.{step_out, crossing_of}
@@ -16,25 +17,23 @@ use Rattle.faceijk.proofs.Taking.{accepted, sound_at, okay_on_grid}
 use Rattle.faceijk.proofs.Settling.{okay_out}
 use Rattle.walk_lines.specs.Lines.{place_line, over_word, from_word, rest_line, refused_line, line_text}
 use Rattle.walk_question.specs.declared.Question.{Question}
-use Rattle.walk_question.specs.declared.Reading.{Reading}
 use Rattle.walk.specs.declared.Walk.{Walk}
 use Rattle.walk.specs.declared.State.{State}
-use Rattle.walk.specs.declared.Step.{Step}
 use Rattle.walk.specs.Texts.{path, overs, told, grid_at, rest_of, question_text, reading_text, grid_in, walking_text, text_of, beginning, begun_with, begun_at, begun_from, moved_to, onward_step, told_step, walking_step, step_of}
 use Rattle.walk.specs.Writing.{Lines, none, more}
 use Rattle.walk.proofs.Paths.{path_on, path_ends, lands}
 
-abbrev pub text_of_step : Step → List ℕ
-text_of_step (Step.Next line after) = line_text line ++ text_of after
-text_of_step Step.End = []
+abbrev pub text_of_step : Option (Line × State) → List ℕ
+text_of_step (Some (line, after)) = line_text line ++ text_of after
+text_of_step None = []
 
-module _ (w : Walk) (fine : on_grid_verdict w.place w.level.0 ≡ Fine) where
+module _ (w : Walk) (clear : on_grid_verdict w.place w.level.0 ≡ fine) where
   -- a walk that steps: the line of that step, and the text from there
   stepped : (grid_in w).limit < sum_at w.place → overs (path (grid_in w) w.place) ++ rest_line w.rest ≡ text_of_step (onward_step true w (crossing_of false (grid_in w) w.place).place)
   unfolding walking_text
   stepped far =
       let g = grid_in w in
-      let a = accepted w.place w.level.0 false fine in
+      let a = accepted w.place w.level.0 false clear in
       let sound = sound_at w.level.0 w.substrate a.level in
       let q = step_out false g w.place in
       let there = okay_on_grid q w.level.0 (okay_out g sound w.place a.okay far) a.level in
@@ -61,8 +60,8 @@ unfolding walking_text walking_step
 walking w = go (on_grid_verdict w.place w.level.0) refl
   where
     go : (v : Verdict) → on_grid_verdict w.place w.level.0 ≡ v → told v (overs (path (grid_in w) w.place) ++ rest_line w.rest) ≡ text_of_step (told_step v (onward_step (ltb (grid_in w).limit (sum_at w.place)) w (crossing_of false (grid_in w) w.place).place))
-    go Fine e = on w e
-    go (Refused r) e = sym (append-nil (refused_line r))
+    go (Ok _) e = on w e
+    go (Err r) e = sym (append-nil (refused_line r))
 
 pub text_step : (s : State) → text_of s ≡ text_of_step (step_of s)
 text_step (State.Starting w) = refl
@@ -83,9 +82,9 @@ unfolding begun_at question_text walking_text
 begins q = go (on_grid_verdict q.place q.level.0) refl
   where
     go : (v : Verdict) → on_grid_verdict q.place q.level.0 ≡ v → text_of (begun_with v (beginning q)) ≡ told v (place_line from_word q.place ++ (overs (path (grid_at q) q.place) ++ rest_line (rest_of q)))
-    go Fine e = ap (λ (v : Verdict). place_line from_word q.place ++ told v (overs (path (grid_at q) q.place) ++ rest_line (rest_of q))) e
-    go (Refused r) e = refl
+    go (Ok _) e = ap (λ (v : Verdict). place_line from_word q.place ++ told v (overs (path (grid_at q) q.place) ++ rest_line (rest_of q))) e
+    go (Err r) e = refl
 
-pub begun_text : (r : Reading) → text_of (begun_from r) ≡ reading_text r
-begun_text (Reading.Line q) = begins q
-begun_text Reading.BadLine = refl
+pub begun_text : (r : Option Question) → text_of (begun_from r) ≡ reading_text r
+begun_text (Some q) = begins q
+begun_text None = refl

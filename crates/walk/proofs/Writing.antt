@@ -1,20 +1,16 @@
 -- Writing into the buffer: a line put behind the others, and what a stop means. Assumes nothing.
 use mathlib.Core.Path.{◌≡◌, refl, sym, ap, subst, ◌∙◌}
-use mathlib.Core.Bool.{Bool, true, false}
 use mathlib.Core.List.{List, ◌++◌, append_assoc}
 use Prim.Native.Nat.{ℕ, suc, ◌+◌, ◌-◌, ◌≤◌, ◌<◌}
 use native.Mathlib.Omega.{arith}
-use lib.Dec.{ltb}
 use lib.ListN.{length, take, drop, length-append, length-drop}
 use lib.Seq.{sets-eq, take_at, drop_at, drop-drop, length-take-le}
-use borrow.Author.Tests.{ltb-true}
-use Rattle.level.specs.Levels.{bit}
+use Rattle.std.specs.Prelude.{Some, None}
 use Rattle.text.specs.Writing.{PutAt}
 use Rattle.walk_lines.specs.declared.Line.{Line}
 use Rattle.walk_lines.specs.Lines.{line_text, from_word, over_word}
 use Rattle.walk_lines.proofs.Lengths.{place_line_length, rest_line_length, refused_line_length}
 use Rattle.walk.specs.declared.State.{State}
-use Rattle.walk.specs.declared.Step.{Step}
 use Rattle.walk.specs.declared.Written.{Written}
 use Rattle.walk.specs.Texts.{step_of}
 use Rattle.walk.specs.Writing.{Lines, none, more, Stopped, ended, full, Begun, PutLine, put, left, OneMore, wrote, stays}
@@ -31,11 +27,11 @@ line_some (Line.Rest s) = omega (arith, rest_line_length s)
 line_some (Line.Refused r) = omega (arith, refused_line_length r)
 
 -- a line that moved nothing did not fit, and writing stops
-pub stops : (w : Written) (old new : List ℕ) {line : Line} {after : State} (end : ℕ) → step_of w.state ≡ Step.Next line after → PutLine (line_text line) old new w.len end → end ≤ w.len → OneMore w old new w
+pub stops : (w : Written) (old new : List ℕ) {line : Line} {after : State} (end : ℕ) → step_of w.state ≡ Some (line, after) → PutLine (line_text line) old new w.len end → end ≤ w.len → OneMore w old new w
 stops w old new {line} end e (put a b c) h = absurd (omega (arith, line_some line))
 stops w old new end e (left a b c d) h = stays refl b (full e c d)
 
-pub none_left : (w : Written) (old : List ℕ) → step_of w.state ≡ Step.End → OneMore w old old w
+pub none_left : (w : Written) (old : List ℕ) → step_of w.state ≡ None → OneMore w old old w
 none_left w old e = stays refl refl (ended e)
 
 -- nothing is written yet
@@ -86,11 +82,7 @@ goes_on {s} {old} {mid} {new} w r b (stays is k st) = (
   λ h. subst (λ (z : Written). Stopped (length new - z.len) z.state) (sym is) (subst (λ (z : List ℕ). Stopped (length z - w.len) w.state) (sym k) st),
 )
 
--- what is written stays written, and the loop's measure falls
+-- what is written stays written
 pub grows : {old new : List ℕ} (w r : Written) → OneMore w old new r → w.len ≤ r.len
 grows w r (wrote e p lt) = omega arith
 grows w r (stays is k st) = omega (arith, ap (λ (z : Written). z.len) is)
-
-pub falls : (l a r : ℕ) (m b : Bool) → m ≡ true → b ≡ ltb a r → a ≤ r → r ≤ l → (l - r) + bit b < (l - a) + bit m
-falls l a r m true t e h k = let lt = ltb-true a r (sym e) in let one = ap bit t in omega arith
-falls l a r m false t e h k = let one = ap bit t in omega arith

@@ -1,21 +1,20 @@
 -- Writing into a lent buffer: as many whole lines as fit, and the state from which to go on.
-use Rattle.std.specs.Prelude.{◌≡◌, List, [], ◌++◌, ℕ, suc, ◌+◌, ◌-◌, ◌≤◌, ◌<◌, length, take, drop}
+use Rattle.std.specs.Prelude.{◌≡◌, List, [], ◌++◌, ℕ, suc, ◌+◌, ◌-◌, ◌≤◌, ◌<◌, length, take, drop, Some, None}
 use Rattle.walk_lines.specs.declared.Line.{Line}
 use Rattle.walk_lines.specs.Lines.{line_text}
 use Rattle.walk.specs.declared.State.{State}
-use Rattle.walk.specs.declared.Step.{Step}
 use Rattle.walk.specs.declared.Written.{Written}
 use Rattle.walk.specs.Texts.{step_of}
 
 -- n whole lines, these bytes, lead from state s to state m
 pub data Lines (s : State) : ℕ → List ℕ → State → Type 0 where
   none : Lines s 0 [] s
-  more : {n : ℕ} {bs : List ℕ} {m after : State} {line : Line} → Lines s n bs m → step_of m ≡ Step.Next line after → Lines s (suc n) (bs ++ line_text line) after
+  more : {n : ℕ} {bs : List ℕ} {m after : State} {line : Line} → Lines s n bs m → step_of m ≡ Some (line, after) → Lines s (suc n) (bs ++ line_text line) after
 
 -- why no further line is written: there is none, or it does not fit. No line has more than 70 bytes
 pub data Stopped (room : ℕ) (s : State) : Type 0 where
-  ended : step_of s ≡ Step.End → Stopped room s
-  full : {line : Line} {after : State} → step_of s ≡ Step.Next line after → room < length (line_text line) → length (line_text line) ≤ 70 → Stopped room s
+  ended : step_of s ≡ None → Stopped room s
+  full : {line : Line} {after : State} → step_of s ≡ Some (line, after) → room < length (line_text line) → length (line_text line) ≤ 70 → Stopped room s
 
 -- so far: whole lines stand at the buffer's start, and its other bytes are unchanged
 pub record Begun (s : State) (old new : List ℕ) (w : Written) : Type 0 where
@@ -46,5 +45,5 @@ pub data PutLine (x old new : List ℕ) (at r : ℕ) : Type 0 where
 
 -- one line more than w, or none because writing stops there
 pub data OneMore (w : Written) (old new : List ℕ) (r : Written) : Type 0 where
-  wrote : {line : Line} → step_of w.state ≡ Step.Next line r.state → PutLine (line_text line) old new w.len r.len → w.len < r.len → OneMore w old new r
+  wrote : {line : Line} → step_of w.state ≡ Some (line, r.state) → PutLine (line_text line) old new w.len r.len → w.len < r.len → OneMore w old new r
   stays : r ≡ w → new ≡ old → Stopped (length old - w.len) w.state → OneMore w old new r

@@ -8,14 +8,14 @@ ghost use Rattle.walk_lines.specs.Lines.{line_text};
 ghost use Rattle.walk.specs.Texts.{begun_at, Begins, walking_step, step_of};
 ghost use Rattle.walk.specs.Writing.{Wrote, PutLine, OneMore};
 
-use faceijk::{Crossed, Place, Rested, Settled};
-use level::{GridLevel, Gridded};
+use faceijk::{Place, Rested};
+use level::GridLevel;
 use reply::Refusal;
 use walk_lines::Line;
-use walk_question::{Question, Reading};
+use walk_question::Question;
 
 // A walk on its way: the place reached, where it will rest and after how many steps, and the grid.
-#[derive(Clone, Copy)]
+#[derive(Clone, Copy, Debug, PartialEq, Eq)]
 pub struct Walk {
     pub place: Place,
     pub rest: Rested,
@@ -24,7 +24,7 @@ pub struct Walk {
 }
 
 // What is to be printed next: the start, the walk's further lines, a refusal, or nothing.
-#[derive(Clone, Copy)]
+#[derive(Clone, Copy, Debug, PartialEq, Eq)]
 pub enum State {
     Starting(Walk),
     Walking(Walk),
@@ -32,15 +32,8 @@ pub enum State {
     Finished,
 }
 
-// The next line of a state and the state after it.
-#[derive(Clone, Copy)]
-pub enum Step {
-    Next(Line, State),
-    End,
-}
-
 // The state from which to go on, and how many bytes were written.
-#[derive(Clone, Copy)]
+#[derive(Clone, Copy, Debug, PartialEq, Eq)]
 pub struct Written {
     pub state: State,
     pub len: usize,
@@ -53,13 +46,13 @@ fn begin_at(q: Question) -> State
     let level = q.level;
     let settled = place.settle(level, q.substrate);
     match settled {
-        Settled::Done(rest) => State::Starting(Walk {
+        Ok(rest) => State::Starting(Walk {
             place,
             rest,
             level,
             substrate: q.substrate,
         }),
-        Settled::Refused(refusal) => State::Refusing(refusal),
+        Err(refusal) => State::Refusing(refusal),
     }
 }
 
@@ -69,8 +62,8 @@ pub fn begin(input: &[u8]) -> State
 {
     let reading = walk_question::read_line(input);
     match reading {
-        Reading::Line(q) => begin_at(q),
-        Reading::BadLine => State::Refusing(Refusal::BadLine),
+        Some(q) => begin_at(q),
+        None => State::Refusing(Refusal::BadLine),
     }
 }
 
@@ -79,15 +72,14 @@ fn is_beyond(p: Place, level: GridLevel, substrate: bool) -> bool
     ensures { bad_grid level.0 ≡ false → result ≡ ltb (limit_of level.0 substrate) (sum_at p) }
 {
     let sum = p.sum();
-    let gridded = level.grid(substrate);
-    match gridded {
-        Gridded::Done(grid) => (grid.limit as u64) < sum,
-        Gridded::Refused(_) => false,
+    match level.grid(substrate) {
+        Ok(grid) => u64::from(grid.limit) < sum,
+        Err(_) => false,
     }
 }
 
 // The line of a walk on its way: `over` for a step, `rest` where there is none.
-fn walking_step(w: Walk) -> Step
+fn walking_step(w: Walk) -> Option<(Line, State)>
     ensures { result ≡ walking_step w }
 {
     let place = w.place;
@@ -95,10 +87,10 @@ fn walking_step(w: Walk) -> Step
     let rest = w.rest;
     let crossed = place.cross(level, w.substrate, false);
     match crossed {
-        Crossed::Done(landed) => {
+        Ok(landed) => {
             let next = landed.place;
             if is_beyond(place, level, w.substrate) {
-                return Step::Next(
+                return Some((
                     Line::Over(next),
                     State::Walking(Walk {
                         place: next,
@@ -106,25 +98,25 @@ fn walking_step(w: Walk) -> Step
                         level,
                         substrate: w.substrate,
                     }),
-                );
+                ));
             }
-            Step::Next(Line::Rest(rest), State::Finished)
+            Some((Line::Rest(rest), State::Finished))
         }
-        Crossed::Refused(refusal) => Step::Next(Line::Refused(refusal), State::Finished),
+        Err(refusal) => Some((Line::Refused(refusal), State::Finished)),
     }
 }
 
-fn next_line(state: State) -> Step
+fn next_line(state: State) -> Option<(Line, State)>
     ensures { result ≡ step_of state }
 {
     match state {
         State::Starting(w) => {
             let place = w.place;
-            Step::Next(Line::From(place), State::Walking(w))
+            Some((Line::From(place), State::Walking(w)))
         }
         State::Walking(w) => walking_step(w),
-        State::Refusing(refusal) => Step::Next(Line::Refused(refusal), State::Finished),
-        State::Finished => Step::End,
+        State::Refusing(refusal) => Some((Line::Refused(refusal), State::Finished)),
+        State::Finished => None,
     }
 }
 
@@ -150,7 +142,7 @@ fn one_more(w: Written, buf: &mut [u8]) -> Written
     let at = w.len;
     let step = next_line(state);
     match step {
-        Step::Next(line, after) => {
+        Some((line, after)) => {
             let end = put_line(line, buf, at);
             if at < end {
                 return Written {
@@ -160,7 +152,7 @@ fn one_more(w: Written, buf: &mut [u8]) -> Written
             }
             Written { state, len: at }
         }
-        Step::End => Written { state, len: at },
+        None => Written { state, len: at },
     }
 }
 
@@ -169,11 +161,11 @@ pub fn write_lines(state: State, buf: &mut [u8]) -> Written
     ensures { Wrote state buf.old buf.new result }
 {
     let mut w = Written { state, len: 0 };
-    let mut more = true;
-    while more {
+    loop {
         let at = w.len;
         w = one_more(w, buf);
-        more = at < w.len;
+        if w.len == at {
+            return w;
+        }
     }
-    w
 }

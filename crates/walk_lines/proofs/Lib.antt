@@ -1,2 +1,3 @@
--- Laws of `walk_lines`: how long the lines get.
+-- Laws of `walk_lines`: how long the lines get, and where they stand.
 pub mod Lengths
+pub mod Room

@@ -9,7 +9,7 @@ use faceijk::{Place, Rested};
 use reply::Refusal;
 
 // A line that `walk` may print.
-#[derive(Clone, Copy)]
+#[derive(Clone, Copy, Debug, PartialEq, Eq)]
 pub enum Line {
     From(Place),
     Over(Place),
@@ -24,14 +24,14 @@ fn put_place(buf: &mut [u8], at: usize, p: Place) -> usize
     requires { at + 54 ≤ length buf.old }
     ensures { PutAt (place_fields p) buf.old buf.new at result }
 {
-    let face = text::put_spaced(buf, at, p.face as u64);
-    let i = text::put_spaced(buf, face, p.i as u64);
-    let j = text::put_spaced(buf, i, p.j as u64);
-    text::put_spaced(buf, j, p.k as u64)
+    let face = text::put_spaced(buf, at, u64::from(p.face));
+    let i = text::put_spaced(buf, face, u64::from(p.i));
+    let j = text::put_spaced(buf, i, u64::from(p.j));
+    text::put_spaced(buf, j, u64::from(p.k))
 }
 
-fn place_line(buf: &mut [u8], word: &[u8], p: Place) -> usize
-    requires { (70 ≤ length buf.old) × (length word.now ≡ 4) }
+fn place_line(buf: &mut [u8; LONGEST], word: &[u8], p: Place) -> usize
+    requires { length word.now ≡ 4 }
     ensures { PutAt (place_line word.now p) buf.old buf.new 0 result }
 {
     let start = text::put_word(buf, 0, word);
@@ -39,8 +39,7 @@ fn place_line(buf: &mut [u8], word: &[u8], p: Place) -> usize
     text::put_byte(buf, end, b'\n')
 }
 
-fn rest_line(buf: &mut [u8], rested: Rested) -> usize
-    requires { 70 ≤ length buf.old }
+fn rest_line(buf: &mut [u8; LONGEST], rested: Rested) -> usize
     ensures { PutAt (rest_line rested) buf.old buf.new 0 result }
 {
     let place = rested.place;
@@ -51,13 +50,12 @@ fn rest_line(buf: &mut [u8], rested: Rested) -> usize
     text::put_byte(buf, end, b'\n')
 }
 
-fn refused_line(buf: &mut [u8], refusal: Refusal) -> usize
-    requires { 70 ≤ length buf.old }
+fn refused_line(buf: &mut [u8; LONGEST], refusal: Refusal) -> usize
     ensures { PutAt (refused_line refusal) buf.old buf.new 0 result }
 {
     let number = refusal.number();
     let start = text::put_word(buf, 0, b"refused");
-    let end = text::put_spaced(buf, start, number as u64);
+    let end = text::put_spaced(buf, start, u64::from(number));
     text::put_byte(buf, end, b'\n')
 }
 
@@ -65,13 +63,13 @@ fn refused_line(buf: &mut [u8], refusal: Refusal) -> usize
 pub fn write_line(line: Line, buf: &mut [u8]) -> usize
     ensures { Wrote 70 (line_text line) buf.old buf.new result }
 {
-    if buf.len() < LONGEST {
+    let Some(room) = buf.first_chunk_mut::<LONGEST>() else {
         return 0;
-    }
+    };
     match line {
-        Line::From(place) => place_line(buf, b"from", place),
-        Line::Over(place) => place_line(buf, b"over", place),
-        Line::Rest(rested) => rest_line(buf, rested),
-        Line::Refused(refusal) => refused_line(buf, refusal),
+        Line::From(place) => place_line(room, b"from", place),
+        Line::Over(place) => place_line(room, b"over", place),
+        Line::Rest(rested) => rest_line(room, rested),
+        Line::Refused(refusal) => refused_line(room, refusal),
     }
 }

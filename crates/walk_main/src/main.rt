@@ -1,13 +1,31 @@
 // Reads one line from standard input and prints the walk that it names.
 #![tactic(auto)]
 
-const STDIN_FILENO: i32 = 0;
+ghost use Rattle.std.specs.Prelude.{◌≤◌, length};
+
+use std::io::{Input, Read};
+
+// Fills a buffer from standard input, and says how many bytes there were.
+fn read_full(rt: &impl Input, buffer: &mut [u8]) -> usize
+    ensures { result ≤ length buffer.new }
+{
+    let mut input = rt.reader();
+    let mut len = 0;
+    while len < buffer.len() {
+        match input.read(&mut buffer[len..]) {
+            Ok(0) => return len,
+            Ok(n) => len += n,
+            Err(_) => return len,
+        }
+    }
+    len
+}
 
 // No good line has more than 23 bytes, so that 64 decide.
-fn main() {
+fn main(rt: HostRuntime) {
     let mut input = [0u8; 64];
-    let n = io::read_full(STDIN_FILENO, &mut input);
-    if !walk_print::print_walk(&input[..n]) {
-        walk_print::complain();
+    let n = read_full(&rt, &mut input);
+    if walk_print::print_walk(&rt, &input[..n]).is_err() {
+        walk_print::complain(&rt);
     }
 }

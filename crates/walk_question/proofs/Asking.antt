@@ -1,8 +1,9 @@
 -- A line is read as a question exactly when it is that question's text, a line has one reading, and 64 bytes decide it. Assumes nothing.
 use mathlib.Core.Path.{◌≡◌, refl, sym, ap, subst, ◌∙◌}
 use mathlib.Core.Bool.{Bool, true, false, false≢true}
-use mathlib.Core.List.{List, [], ◌∷◌, ◌++◌, append_assoc, append-nil}
+use mathlib.Core.List.{List, [], ◌∷◌, map, ◌++◌, append_assoc, append-nil}
 use mathlib.Core.Logic.{◌↔◌}
+use Prim.Native.String.{String}
 use Prim.Native.Nat.{ℕ, ◌^◌, ◌≤◌, ◌<◌}
 use native.Mathlib.Decide.{dec_lt}
 use native.Mathlib.Omega.{arith}
@@ -10,34 +11,38 @@ use lib.Dec.{ltb, eqb, lit≤}
 use lib.ListN.{length, get_or, drop, take, length-append, length-take}
 use lib.Seq.{take_all}
 use borrow.Author.Tests.{lt-ltb, ltb-true}
+use Rattle.std.specs.Prelude.{Option, Some, None}
 use Rattle.reply.specs.Choice.{pick}
 use Rattle.reply.specs.Text.{text}
 use Rattle.reply.proofs.Entries.{both}
 use Rattle.text.specs.Numbers.{decimal, field}
 use Rattle.text.proofs.Decimals.{short}
 use Rattle.faceijk.specs.declared.Place.{Place}
-use Rattle.ask_read.specs.declared.Field.{Field}
+use Rattle.std.specs.Prelude.{Option, Some, None, option_map}
+use Rattle.std.specs.Option.{is_some}
+use Rattle.std.proofs.lemmas.Option.{none-some, same_Some}
+use Rattle.ask_read.specs.declared.Field.TheVariants.{Number}
+use Rattle.ask_read.specs.declared.Kind.{Kind}
 use Rattle.ask_read.specs.declared.Asked.{Asked}
 use Rattle.ask_read.specs.declared.Asked.TheVariants.{Settle, Unreadable}
 use Rattle.ask_read.specs.declared.Question.{Question as Fields}
-use Rattle.ask_read.specs.Words.{numeric, number_field, bad, same, flag_field}
-use Rattle.ask_read.specs.Questions.{words, row_at, field_of, filled, readable, filled_by, blank, settle_of}
+use Rattle.ask_read.specs.Words.{number_field, same, flag_field}
+use Rattle.ask_read.specs.Questions.{words, kind_of, row_at, field_of, filled, readable, filled_by, blank, settle_of}
 use Rattle.ask_read.proofs.Numerals.{number_read, number_is, digits_hold}
 use Rattle.ask_read.proofs.Splitting.{spaced, joined, one_byte, decimal_whole, before_space, at_end as alone}
 use Rattle.ask_read.proofs.Filling.{asked_filled, first, no_more}
 use Rattle.ask_read.proofs.Rows.{same_is}
 use Rattle.walk_question.specs.declared.Question.{Question}
-use Rattle.walk_question.specs.declared.Reading.{Reading}
 use Rattle.walk_question.specs.Reading.{letter, fields_of, Short, Asks, Read, Ends, at_end, at_newline}
 use Rattle.walk_question.specs.Fields.{line_of, question_of, is_short, of_numbers, reading_of}
 use Rattle.walk_question.proofs.Ending.{cut, after_number}
 
 -- ---- p or s
 
-abbrev kind : List ℕ → Field
+abbrev kind : List ℕ → Option ℕ
 kind w = flag_field (text "p") (text "s") w
 
-kind_read : (s : Bool) → kind (letter s ∷ []) ≡ numeric (pick s 1 0)
+kind_read : (s : Bool) → kind (letter s ∷ []) ≡ Some (pick s 1 0)
 unfolding flag_field same
 kind_read true = refl
 kind_read false = refl
@@ -46,14 +51,23 @@ kind_value : (s : Bool) → eqb (pick s 1 0) 1 ≡ s
 kind_value true = refl
 kind_value false = refl
 
-kind_is : (w : List ℕ) → (kind w).good ≡ true → w ≡ letter (eqb (kind w).number 1) ∷ []
+kind_is : (w : List ℕ) (n : ℕ) → kind w ≡ Some n → w ≡ letter (eqb n 1) ∷ []
 unfolding flag_field
-kind_is w e = go (same w (text "p")) (same w (text "s")) refl refl e
+kind_is w n e = go (same w (text "p")) (same w (text "s")) refl refl e
   where
-    go : (p s : Bool) → same w (text "p") ≡ p → same w (text "s") ≡ s → (pick p (numeric 0) (pick s (numeric 1) bad)).good ≡ true → w ≡ letter (eqb (pick p (numeric 0) (pick s (numeric 1) bad)).number 1) ∷ []
-    go true s e f g = same_is w (text "p") e
-    go false true e f g = same_is w (text "s") f
-    go false false e f g = absurd (false≢true g)
+    go : (p s : Bool) → same w (text "p") ≡ p → same w (text "s") ≡ s → pick p (Some 0) (pick s (Some 1) None) ≡ Some n → w ≡ letter (eqb n 1) ∷ []
+    go true s e f g = same_is w (text "p") e ∙ ap (λ (n : ℕ). letter (eqb n 1) ∷ []) (same_Some 0 n g)
+    go false true e f g = same_is w (text "s") f ∙ ap (λ (n : ℕ). letter (eqb n 1) ∷ []) (same_Some 1 n g)
+    go false false e f g = absurd (none-some n g)
+
+-- the number of a word that is one
+record Numbered (o : Option ℕ) : Type 0 where
+  n : ℕ
+  is : o ≡ Some n
+
+numbered : (o : Option ℕ) → is_some (option_map Number o) ≡ true → Numbered o
+numbered None e = absurd (false≢true e)
+numbered (Some n) e = record { n = n; is = refl }
 
 -- ---- the words of a question
 
@@ -85,30 +99,33 @@ line_is q bs a =
 abbrev Own : List (List ℕ) → Type 0
 Own ws = ws ≡ words_of (question_of (filled_by (row_at 6) ws).numbers)
 
-own : (ws : List (List ℕ)) (f l s i j k : List ℕ) → ws ≡ f ∷ l ∷ s ∷ i ∷ j ∷ k ∷ [] → (number_field f).good ≡ true → (number_field l).good ≡ true → (kind s).good ≡ true → (number_field i).good ≡ true → (number_field j).good ≡ true → (number_field k).good ≡ true → Own ws
+own : (ws : List (List ℕ)) (f l s i j k : List ℕ) → ws ≡ f ∷ l ∷ s ∷ i ∷ j ∷ k ∷ [] → Numbered (number_field f) → Numbered (number_field l) → Numbered (kind s) → Numbered (number_field i) → Numbered (number_field j) → Numbered (number_field k) → Own ws
 unfolding row_at field_of filled
 own ws f l s i j k e gf gl gs gi gj gk =
-    rw (e, gf, gl, gs, gi, gj, gk) (λ d. number_is f gf d ∷ number_is l gl d ∷ kind_is s gs d ∷ number_is i gi d ∷ number_is j gj d ∷ number_is k gk d ∷ [])
+    rw (e, gf.is, gl.is, gs.is, gi.is, gj.is, gk.is) (λ d. number_is f gf.n gf.is d ∷ number_is l gl.n gl.is d ∷ kind_is s gs.n gs.is d ∷ number_is i gi.n gi.is d ∷ number_is j gj.n gj.is d ∷ number_is k gk.n gk.is d ∷ [])
+
+abbrev kinds : String → List Kind
+kinds letters = map kind_of (text letters)
 
 words_are : (ws : List (List ℕ)) → readable (row_at 6).kinds ws ≡ true → Own ws
 unfolding row_at field_of
 words_are ws e =
-    let f = first 110 (text "npnnn") ws e in
-    let l = first 110 (text "pnnn") f.more f.on in
-    let s = first 112 (text "nnn") l.more l.on in
-    let i = first 110 (text "nn") s.more s.on in
-    let j = first 110 (text "n") i.more i.on in
-    let k = first 110 [] j.more j.on in
+    let f = first Kind.Number (kinds "npnnn") ws e in
+    let l = first Kind.Number (kinds "pnnn") f.more f.on in
+    let s = first Kind.Grid (kinds "nnn") l.more l.on in
+    let i = first Kind.Number (kinds "nn") s.more s.on in
+    let j = first Kind.Number (kinds "n") i.more i.on in
+    let k = first Kind.Number [] j.more j.on in
     let none = no_more k.more k.on in
     let is : ws ≡ f.word ∷ l.word ∷ s.word ∷ i.word ∷ j.word ∷ k.word ∷ [] = rw (← none, ← k.is, ← j.is, ← i.is, ← s.is, ← l.is) f.is in
-    own ws f.word l.word s.word i.word j.word k.word is f.good l.good s.good i.good j.good k.good
+    own ws f.word l.word s.word i.word j.word k.word is (numbered _ f.good) (numbered _ l.good) (numbered _ s.good) (numbered _ i.good) (numbered _ j.good) (numbered _ k.good)
 
 -- a number of few digits, as a field
-few : (k n top : ℕ) → 10 ^ k ≡ top → top ≤ 10000 → length (decimal n) ≤ k → (number_field (decimal n) ≡ numeric n) × (ltb n top ≡ true)
+few : (k n top : ℕ) → 10 ^ k ≡ top → top ≤ 10000 → length (decimal n) ≤ k → (number_field (decimal n) ≡ Some n) × (ltb n top ≡ true)
 few k n top e t h = let l = digits_hold k n h in (number_read n (omega arith), lt-ltb n top (omega arith))
 
 -- the words of a question with few digits are read, and give its numbers
-words_read : (q : Question) → Short q → (readable (row_at 6).kinds (words_of q) ≡ true) × (of_numbers (filled_by (row_at 6) (words_of q)).numbers ≡ Reading.Line q)
+words_read : (q : Question) → Short q → (readable (row_at 6).kinds (words_of q) ≡ true) × (of_numbers (filled_by (row_at 6) (words_of q)).numbers ≡ Some q)
 unfolding readable filled field_of row_at of_numbers
 words_read q h =
     let f = few 2 q.place.face 100 refl (lit≤ tt) h.face in
@@ -151,18 +168,18 @@ module _ (bs : List ℕ) where
         ends = c.ends;
       }
 
-  to_text : (q : Question) → reading_of bs ≡ Reading.Line q → Asks q bs
+  to_text : (q : Question) → reading_of bs ≡ Some q → Asks q bs
   unfolding reading_of of_numbers
   to_text q e = go (readable (row_at 6).kinds ws) (is_short numbers) refl refl e
     where
-      go : (t u : Bool) → t ≡ readable (row_at 6).kinds ws → u ≡ is_short numbers → pick t (pick u (Reading.Line (question_of numbers)) Reading.BadLine) Reading.BadLine ≡ Reading.Line q → Asks q bs
+      go : (t u : Bool) → t ≡ readable (row_at 6).kinds ws → u ≡ is_short numbers → pick t (pick u (Some (question_of numbers)) None) None ≡ Some q → Asks q bs
       go true true t u e =
           let is : question_of numbers ≡ q = cc in
           subst (λ (q : Question). Asks q bs) is (asked (sym t) (sym u))
       go true false t u e = let z : ◌≡◌ {A = ℕ} 0 1 = cc in absurd (omega arith)
       go false u t v e = let z : ◌≡◌ {A = ℕ} 0 1 = cc in absurd (omega arith)
 
-  of_text : (q : Question) → Asks q bs → reading_of bs ≡ Reading.Line q
+  of_text : (q : Question) → Asks q bs → reading_of bs ≡ Some q
   unfolding reading_of
   of_text q a =
       let w : ws ≡ words_of q = ap words (line_is q bs a) ∙ words_split q in
@@ -170,35 +187,35 @@ module _ (bs : List ℕ) where
       rw (w, r.0) r.1
 
   -- a line is read as q exactly when it is q's text
-  pub reads : (q : Question) → (reading_of bs ≡ Reading.Line q) ↔ Asks q bs
+  pub reads : (q : Question) → (reading_of bs ≡ Some q) ↔ Asks q bs
   reads q = (to_text q, of_text q)
 
   -- and it is malformed exactly when it is no question's text
-  pub malformed : (reading_of bs ≡ Reading.BadLine) ↔ ((q : Question) → Asks q bs → ⊥)
+  pub malformed : (reading_of bs ≡ None) ↔ ((q : Question) → Asks q bs → ⊥)
   malformed = (none, go (reading_of bs) refl)
     where
-      none : reading_of bs ≡ Reading.BadLine → (q : Question) → Asks q bs → ⊥
+      none : reading_of bs ≡ None → (q : Question) → Asks q bs → ⊥
       none e q a = let f = of_text q a in let z : ◌≡◌ {A = ℕ} 0 1 = cc in omega arith
 
-      go : (r : Reading) → r ≡ reading_of bs → ((q : Question) → Asks q bs → ⊥) → reading_of bs ≡ Reading.BadLine
-      go (Reading.Line q) e h = absurd (h q (to_text q (sym e)))
-      go Reading.BadLine e h = sym e
+      go : (r : Option Question) → r ≡ reading_of bs → ((q : Question) → Asks q bs → ⊥) → reading_of bs ≡ None
+      go (Some q) e h = absurd (h q (to_text q (sym e)))
+      go None e h = sym e
 
   -- no line is the text of two questions
   pub one_question : (p q : Question) → Asks p bs → Asks q bs → p ≡ q
   one_question p q a b = let e = of_text p a in let f = of_text q b in cc
 
   -- what the words say is how the line is read
-  pub is_read : (r : Reading) → r ≡ reading_of bs → Read bs r
-  is_read (Reading.Line q) e = to_text q (sym e)
-  is_read Reading.BadLine e = malformed.0 (sym e)
+  pub is_read : (r : Option Question) → r ≡ reading_of bs → Read bs r
+  is_read (Some q) e = to_text q (sym e)
+  is_read None e = malformed.0 (sym e)
 
-  pub as_read : (r : Reading) → Read bs r → r ≡ reading_of bs
-  as_read (Reading.Line q) a = sym (of_text q a)
-  as_read Reading.BadLine h = sym (malformed.1 h)
+  pub as_read : (r : Option Question) → Read bs r → r ≡ reading_of bs
+  as_read (Some q) a = sym (of_text q a)
+  as_read None h = sym (malformed.1 h)
 
   -- two readings of one line coincide
-  pub one_reading : (a b : Reading) → Read bs a → Read bs b → a ≡ b
+  pub one_reading : (a b : Option Question) → Read bs a → Read bs b → a ≡ b
   one_reading a b x y = as_read a x ∙ sym (as_read b y)
 
 -- ---- what the code finds
@@ -208,25 +225,25 @@ module _ (bs : List ℕ) (q : Fields) (is : q ≡ settle_of (line_of bs)) where
   unfolding row_at
   asked_is = ap (λ (x : Fields). x.asked) is ∙ asked_filled 0 (row_at 6).kinds (words (line_of bs)) (blank Settle)
 
-  pub settled : (r : Reading) → q.asked ≡ Settle → r ≡ of_numbers q.numbers → Read bs r
+  pub settled : (r : Option Question) → q.asked ≡ Settle → r ≡ of_numbers q.numbers → Read bs r
   unfolding reading_of
   settled r h e = is_read bs r (go (readable (row_at 6).kinds (words (line_of bs))) (sym asked_is ∙ h))
     where
-      go : (t : Bool) → pick t Settle Unreadable ≡ Settle → r ≡ pick t (of_numbers (settle_of (line_of bs)).numbers) Reading.BadLine
+      go : (t : Bool) → pick t Settle Unreadable ≡ Settle → r ≡ pick t (of_numbers (settle_of (line_of bs)).numbers) None
       go true f = e ∙ ap (λ (x : Fields). of_numbers x.numbers) is
       go false f = let z : ◌≡◌ {A = ℕ} 0 1 = cc in absurd (omega arith)
 
   -- something holds of what is asked that does not hold of `Settle`
-  pub unsettled : (P : Asked → Type 0) → P q.asked → (P Settle → ⊥) → Read bs Reading.BadLine
+  pub unsettled : (P : Asked → Type 0) → P q.asked → (P Settle → ⊥) → Read bs None
   unfolding reading_of
-  unsettled P h other = is_read bs Reading.BadLine (go (readable (row_at 6).kinds (words (line_of bs))) (subst P asked_is h))
+  unsettled P h other = is_read bs None (go (readable (row_at 6).kinds (words (line_of bs))) (subst P asked_is h))
     where
-      go : (t : Bool) → P (pick t Settle Unreadable) → Reading.BadLine ≡ pick t (of_numbers (settle_of (line_of bs)).numbers) Reading.BadLine
+      go : (t : Bool) → P (pick t Settle Unreadable) → None ≡ pick t (of_numbers (settle_of (line_of bs)).numbers) None
       go true h = absurd (other h)
       go false h = refl
 
 -- short numbers are a question
-pub good : (ns : List ℕ) (p : Place) → p ≡ (question_of ns).place → is_short ns ≡ true → Reading.Line (record { place = p; level = record { 0 = get_or ns 1 0 }; substrate = eqb (get_or ns 2 0) 1 }) ≡ of_numbers ns
+pub good : (ns : List ℕ) (p : Place) → p ≡ (question_of ns).place → is_short ns ≡ true → Some (record { place = p; level = record { 0 = get_or ns 1 0 }; substrate = eqb (get_or ns 2 0) 1 }) ≡ of_numbers ns
 unfolding of_numbers
 good ns p e t = rw (e, t) refl
 
@@ -245,7 +262,7 @@ text_short q bs a =
     omega arith
 
 -- a line longer than any text is malformed
-pub too_long : (bs : List ℕ) → 23 < length bs → reading_of bs ≡ Reading.BadLine
+pub too_long : (bs : List ℕ) → 23 < length bs → reading_of bs ≡ None
 too_long bs h = (malformed bs).1 (λ q a. omega (arith, text_short q bs a))
 
 -- so the first 64 bytes of an input say what the whole input says

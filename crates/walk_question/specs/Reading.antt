@@ -1,9 +1,8 @@
 -- The line that `walk` reads: six fields with single spaces, face, grid level, p or s, i, j, k; then one newline or the end, and nothing more.
-use Rattle.std.specs.Prelude.{◌≡◌, Bool, List, [], ◌∷◌, ◌++◌, ℕ, ◌≤◌, length}
+use Rattle.std.specs.Prelude.{◌≡◌, Bool, List, [], ◌∷◌, ◌++◌, ℕ, ◌≤◌, length, Option, Some, None}
 use Rattle.reply.specs.Choice.{pick}
 use Rattle.text.specs.Numbers.{decimal, field, space, newline}
 use Rattle.walk_question.specs.declared.Question.{Question}
-use Rattle.walk_question.specs.declared.Reading.{Reading}
 
 -- p, or s for a substrate grid
 abbrev pub letter : Bool → ℕ
@@ -38,6 +37,6 @@ pub record Asks (q : Question) (bs : List ℕ) : Type 0 where
   pub ends : Ends after
 
 -- how a line is read: as the question that it asks, or as malformed if it asks none
-abbrev pub Read : List ℕ → Reading → Type 0
-Read bs (Reading.Line q) = Asks q bs
-Read bs Reading.BadLine = (q : Question) → Asks q bs → ⊥
+abbrev pub Read : List ℕ → Option Question → Type 0
+Read bs (Some q) = Asks q bs
+Read bs None = (q : Question) → Asks q bs → ⊥

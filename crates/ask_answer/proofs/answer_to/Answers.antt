@@ -8,10 +8,8 @@ use Rattle.ask_read.specs.contracts.Asked.{the_type}
 use lib.Ieee.{to_bits, of_bits}
 use Rattle.ask_read.specs.declared.Asked.{Asked}
 use Rattle.ask_read.specs.declared.Asked.TheVariants.{Settle}
-use Rattle.reply.specs.Replies.{Reply}
-use Rattle.ask_call.specs.Replies.{reply_of, Holds}
+use Rattle.ask_call.specs.Replies.{reply_of}
 use Rattle.ask_answer.specs.Answers.{Says}
-use borrow.Author.Rules.{rules}
 use Rattle.ask_answer.proofs.answer_to.Goals as goal
 
 -- the questions other than settling, by their numbers
@@ -21,12 +19,9 @@ others = 0 ∷ 1 ∷ 2 ∷ 3 ∷ 4 ∷ 5 ∷ 7 ∷ 8 ∷ 9 ∷ 10 ∷ 11 ∷ 12 
 not-settling : (a : Asked) → OneOf others (tag_of the_type a) → a ≡ Settle → ⊥
 not-settling a h e = miss others 6 tt (subst (λ (x : Asked). OneOf others (tag_of the_type x)) e h)
 
-renumbered : {asked : Asked} {r : Reply} {k : ℕ} {ns wide ds : List ℕ} → wide ≡ ns → Holds asked r k ns ds → Holds asked r k wide ds
-renumbered {asked = asked} {r = r} {k = k} {ds = ds} e h = subst (λ (x : List ℕ). Holds asked r k x ds) (sym e) h
-
-pub call-number-requires : goal.call-number-requires
+pub call-outcome-requires : goal.call-outcome-requires
 unfolding to_bits of_bits
-call-number-requires c = (refl, refl)
+call-outcome-requires c = (refl, refl)
 
 pub returns-in-Settle : goal.returns-in-Settle
 unfolding reply_of

@@ -15,7 +15,6 @@ use Rattle.ask_call.specs.Replies.{number_at, place_at, reply_of, reply_to, valu
 use Rattle.ask_call.proofs.Holding.{refused}
 use Rattle.ask_call.proofs.Calls.{nearest, place_of, corners, border_of, root, sphere_of_lem, globe_of}
 use Rattle.ask_call.proofs.Grids.{is_grid, on_any_frame}
-use borrow.Author.Rules.{rules}
 use Rattle.ask_call.proofs.call.Goals as goal
 
 -- the question that was found
@@ -90,7 +89,7 @@ returns-in-Help c =
 pub returns-in-Unreadable : goal.returns-in-Unreadable
 unfolding reply_of
 returns-in-Unreadable c =
-    on c.args.frame.now c.args.q Unreadable c.in-Unreadable.is (refused Unreadable 0 BadLine refl c.number.ensures c.requires.0 c.requires.1)
+    on c.args.frame.now c.args.q Unreadable c.in-Unreadable.is (refused Unreadable 0 BadLine refl refl c.requires.0 c.requires.1)
 
 pub returns-in_default : goal.returns-in_default
 returns-in_default c settling =

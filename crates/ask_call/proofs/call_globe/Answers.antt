@@ -1,5 +1,4 @@
 -- `call_globe` meets its contract: what the C face gives for the place of its fields. Assumes nothing.
-use borrow.Author.Rules.{rules}
 use Rattle.ask_call.proofs.call_globe.Goals as goal
 
 pub returns : goal.returns

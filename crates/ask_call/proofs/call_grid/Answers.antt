@@ -11,7 +11,6 @@ use Rattle.ask_read.specs.declared.Asked.TheVariants.{Round, Centre, Meet, Turn,
 use Rattle.ask_call.specs.Replies.{number_at, flag_at, coord_at, place_at, reply_of, reply_to, on_grid, Holds}
 use Rattle.ask_call.proofs.Calls.{round, centre, meet, turn, step, cross, direction, same, first_of_lem}
 use Rattle.ask_call.proofs.Grids.{not_grid}
-use borrow.Author.Rules.{rules}
 use borrow.Enum.Refused.{opened}
 use Rattle.ask_call.proofs.call_grid.Goals as goal
 

@@ -1,13 +1,6 @@
--- `take_bytes` meets its contract: what is kept stays within its buffers, and each turn ends a line. Assumes nothing.
-use mathlib.Core.Path.{◌≡◌}
-use Prim.Native.Nat.{◌-◌, ◌≤◌}
-use lib.ListN.{length}
-use borrow.Author.Rules.{rules}
+-- `take_bytes` ends, since each turn leaves fewer bytes. Assumes nothing.
+use Rattle.std.proofs.Common.{length}
 use Rattle.ask_main.proofs.take_bytes.Given as goal
 
-abbrev pub invariant-loop-i : goal.invariant-loop-i
-invariant-loop-i l =
-    (l.kept.line ≤ length l.line) × (l.kept.answers ≤ length l.answers) × (length l.line ≡ length l.initial.line) × (length l.answers ≡ length l.initial.answers) × (l.i ≤ length l.bytes)
-
-abbrev pub decreases-loop-i : goal.decreases-loop-i
-decreases-loop-i l = length l.bytes - l.i
+abbrev pub decreases-loop-end : goal.decreases-loop-end
+decreases-loop-end g l = length l.rest

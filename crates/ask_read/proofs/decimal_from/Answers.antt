@@ -1,19 +1,9 @@
--- `decimal_from` meets its contract: two whole numbers that a double holds, divided once. Assumes nothing.
-use mathlib.Core.Path.{◌∙◌}
-use Rattle.ask_read.proofs.Decimals.{digits_number, power_number, taken, left}
+-- `decimal_from` meets its contract: both numbers are doubles, and only their quotient is rounded. Assumes nothing.
+use Rattle.ask_read.proofs.Decimals.{power_number, taken}
 use Rattle.ask_read.proofs.decimal_from.Goals as goal
 
-pub int_to_float-value : goal.int_to_float-value
-int_to_float-value c = digits_number c.args.d.value c.requires.0
-
-pub int_to_float-scale : goal.int_to_float-scale
-int_to_float-scale c =
-    power_number c.args.k c.tens-scale.result c.requires.1 c.tens-scale.ensures
-
-pub returns-then-d : goal.returns-then-d
-returns-then-d c =
-    c.real.ensures ∙
-    taken c.args.d c.args.k c.tens-scale.result c.requires.0 c.requires.1 c.tens-scale.ensures c.if-d.true
+pub int_to_float-result-2 : goal.int_to_float-result-2
+int_to_float-result-2 c = power_number c.args.k c.pow-scale.result c.requires.1 c.pow-scale.ensures
 
 pub returns : goal.returns
-returns c = c.not_good.ensures ∙ left c.args.d c.args.k c.if-d.false
+returns c = taken c.args.value c.args.k c.pow-scale.result c.requires.0 c.requires.1 c.pow-scale.ensures

@@ -1,28 +1,26 @@
--- `find` meets its contract: what is asked of the bytes from the index on is asked of all of them. Assumes nothing.
-use Rattle.std.proofs.Common.{◌≡◌, ap, ℕ, arith}
-use Rattle.ask_read.specs.Scan.{slice, index_of}
-use Rattle.ask_read.proofs.Scanning.{nowhere, right_here, further_on}
+-- `find` meets its contract: the place in the part, or the part's end. Assumes nothing.
+use Rattle.std.proofs.Common.{arith, ◌-◌, ◌≡◌, ◌∙◌, sym, ap, Some, None, take, drop, length-take, length-drop}
+use Rattle.ask_read.specs.Scan.{slice, place}
+use Rattle.ask_read.proofs.Scanning.{placed, unplaced, part}
 use Rattle.ask_read.proofs.find.Goals as goal
 
-pub returns-then-s-i : goal.returns-then-s-i
-returns-then-s-i c =
-    let l = c.loop-i in
+pub returns-in-Some : goal.returns-in-Some
+returns-in-Some c =
     let a = c.args in
-    let e = right_here a.s.now l.i a.end a.b (omega arith) (omega arith) c.if-s-i.true in
-    (omega (arith, e, l.invariant.1), omega arith)
+    let e : Some c.in-Some.i ≡ place a.b (take (a.end - a.from) (drop a.from a.s.now)) = sym c.in-Some.is ∙ c.place_of.ensures in
+    let p = placed a.b (slice a.from a.end a.s.now) c.in-Some.i (e ∙ ap (place a.b) (part a.s.now a.from a.end c.requires.0)) in
+    (omega (arith, p.0), omega (arith, p.1, length-drop a.from (take a.end a.s.now), length-take a.end a.s.now))
 
-pub loop-i-preserved : goal.loop-i-preserved
-loop-i-preserved c =
-    let l = c.loop-i in
+pub returns-in-None : goal.returns-in-None
+returns-in-None c =
     let a = c.args in
-    let e = further_on a.s.now l.i a.end a.b (omega arith) (omega arith) c.if-s-i.false in
-    (omega arith, omega (arith, e, l.invariant.1))
+    let e : None ≡ place a.b (take (a.end - a.from) (drop a.from a.s.now)) = sym c.in-None.is ∙ c.place_of.ensures in
+    let p = unplaced a.b (slice a.from a.end a.s.now) (e ∙ ap (place a.b) (part a.s.now a.from a.end c.requires.0)) in
+    (omega (arith, p, length-drop a.from (take a.end a.s.now), length-take a.end a.s.now, c.requires.0, c.requires.1), omega arith)
 
-pub returns : goal.returns
-returns c =
-    let l = c.loop-i in
+pub overflow_add-result : goal.overflow_add-result
+overflow_add-result c =
     let a = c.args in
-    let at : l.i ≡ a.end = omega arith in
-    let e = nowhere a.s.now a.end a.b in
-    let f = ap (λ (i : ℕ). index_of a.b (slice i a.end a.s.now)) at in
-    (omega (arith, e, f, l.invariant.1), omega arith)
+    let e : Some c.in-Some.i ≡ place a.b (take (a.end - a.from) (drop a.from a.s.now)) = sym c.in-Some.is ∙ c.place_of.ensures in
+    let p = placed a.b (slice a.from a.end a.s.now) c.in-Some.i (e ∙ ap (place a.b) (part a.s.now a.from a.end c.requires.0)) in
+    record { fits = omega (arith, p.1, length-drop a.from (take a.end a.s.now), length-take a.end a.s.now, c.ranges.end.fits, c.requires.0) }

@@ -1,23 +1,22 @@
 -- `number` meets its contract: at most ten digits, which 64 bits hold. Assumes nothing.
-use native.Mathlib.Omega.{arith}
-use borrow.Author.Tests.{ltb-true}
-use lib.Dec.{ltb, lit≤}
-use lib.ListN.{length}
-use Rattle.ask_read.specs.Words.{number_field}
-use Rattle.reply.proofs.Entries.{both}
-use Rattle.ask_read.proofs.Decimals.{at_most, widen}
+use Rattle.std.proofs.Common.{rules, ◌≡◌, sym, ◌∙◌, Some, None, arith}
+use Rattle.std.proofs.lemmas.Bool.Decides.{nat_tests}
+use Rattle.std.proofs.lemmas.Grind.{common_steps}
+use Rattle.ask_read.specs.Words.{spelt, number_from, number_field}
 use Rattle.ask_read.proofs.number.Goals as goal
 
-pub spell-requires : goal.spell-requires
-spell-requires c =
-    let w = c.args.s.now in
-    let t = both (ltb (length w) 11) c.is_plain-shaped.result c.if-s-shaped.true in
-    (lit≤ tt, (widen (at_most 10 w 10 (lit≤ tt) (omega (arith, ltb-true (length w) 11 t.0))) (lit≤ tt)).fits)
+pub returns-in_err-value : goal.returns-in_err-value
+unfolding number_field
+returns-in_err-value c =
+    let e : spelt 10 0 c.args.s.now ≡ None = sym c.spell.ensures ∙ c.in_err-value.was in
+    rw (← c.is_plain-shaped.ensures, c.if-s-shaped.true, e) (search rules)
 
 pub returns-then-s-shaped : goal.returns-then-s-shaped
-unfolding number_field
-returns-then-s-shaped c = rw (← c.is_plain-shaped.ensures, c.if-s-shaped.true, ← c.spell.ensures) c.number_from.ensures
+unfolding number_field number_from
+returns-then-s-shaped c =
+    let e : spelt 10 0 c.args.s.now ≡ Some c.in_ok-value.value = sym c.spell.ensures ∙ c.in_ok-value.was in
+    rw (← c.is_plain-shaped.ensures, c.if-s-shaped.true, e) (grind (arith, nat_tests, common_steps))
 
 pub returns : goal.returns
 unfolding number_field
-returns c = rw (← c.is_plain-shaped.ensures, c.if-s-shaped.false) c.not_good.ensures
+returns c = rw (← c.is_plain-shaped.ensures, c.if-s-shaped.false)

@@ -1,5 +1,4 @@
 -- `bits` meets its contract: a NaN has the pattern that the definition names. Assumes nothing.
-use borrow.Author.Rules.{rules}
 use mathlib.Core.Path.{sym, ap, subst}
 use lib.Dec.{T}
 use lib.Ieee.{binary64, to_bits}

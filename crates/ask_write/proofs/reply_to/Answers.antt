@@ -1,5 +1,4 @@
 -- `reply_to` meets its contract: what is written is the text of the reply to the question that the line asks. Assumes nothing.
-use borrow.Author.Rules.{rules}
 use Rattle.ask_write.proofs.Laws.{written}
 use Rattle.ask_write.proofs.reply_to.Goals as goal
 

@@ -1,8 +1,7 @@
 -- `shown` meets its contract: all values, or as many as the count says. Assumes nothing.
-use borrow.Author.Rules.{rules}
 use Prim.Native.Nat.{◌-◌, ◌*◌, ◌/◌, ◌≤◌}
 use native.Mathlib.Omega.{arith}
-use Rattle.ask_write.proofs.Lengths.{all_few, some_shown, all_shown, past_all, few_values}
+use Rattle.ask_write.proofs.Lengths.{all_few, as_counted, all_shown, past_all, few_values}
 use Rattle.ask_write.proofs.shown.Goals as goal
 
 pub returns-then-len-lt49 : goal.returns-then-len-lt49
@@ -26,12 +25,8 @@ overflow_add-some c =
     omega (arith, few_values a.len a.count c.if-len-lt49.false c.requires, c.if-len-count.false, c.requires) in
     omega (arith, few)
 
-pub returns-then-some-len : goal.returns-then-some-len
-returns-then-some-len c =
+pub returns : goal.returns
+returns c =
     let a = c.args in
-    (some_shown a.len a.count c.if-len-lt49.false c.if-some-len.true, omega (arith, c.if-some-len.true))
-
-pub returns-else-some-len : goal.returns-else-some-len
-returns-else-some-len c =
-    let a = c.args in
-    (all_shown a.len a.count c.if-len-lt49.false c.if-some-len.false, omega arith)
+    let border = c.if-len-lt49.false in
+    (as_counted a.len a.count border c.min.result c.min.ensures, omega (arith, c.min.ensures))

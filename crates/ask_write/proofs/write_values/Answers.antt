@@ -1,5 +1,4 @@
 -- `write_values` meets its contract: by the question. Assumes nothing.
-use borrow.Author.Rules.{rules}
 use native.Mathlib.Omega.{arith}
 use Rattle.text.proofs.Putting.{put_nothing}
 use Rattle.ask_write.specs.Texts.{values_text}

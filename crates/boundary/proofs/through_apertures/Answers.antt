@@ -12,6 +12,3 @@ pub returns-then-odd : goal.returns-then-odd
 returns-then-odd c =
     rw c.if-odd.true
     (c.aperture7_cw.ensures ∙ (ap (map_of Aperture7Cw) c.aperture3_twice-q.ensures ∙ then_seven _))
-
-pub returns : goal.returns
-returns c = rw c.if-odd.false c.aperture3_twice-q.ensures

@@ -1,8 +1,15 @@
--- `double::is_finite` meets its contract. Assumes nothing.
-use lib.Ieee.{div, neg, of_bits}
-use Rattle.double.proofs.Sign.{finite_is}
+-- `double::is_finite` meets its contract: the library's test is the paper's. Assumes nothing.
+use mathlib.Core.Path.{◌≡◌, refl, ◌∙◌}
+use lib.Ieee.{Float, nan, inf, fin}
+use Rattle.std.specs.Float.{float_is_finite}
+use Rattle.double.specs.Double.{finite}
 use Rattle.double.proofs.is_finite.Goals as goal
 
+same : (x : Float) → float_is_finite x ≡ finite x
+unfolding float_is_finite
+same nan = refl
+same (inf s) = refl
+same (fin s m e) = refl
+
 pub returns : goal.returns
-unfolding div neg of_bits
-returns c = finite_is c.args.x
+returns c = c.is_finite.ensures.value ∙ same c.args.x

@@ -1,9 +1,7 @@
 -- `plane_point` meets its contract: frame, face and level are tested first, then the vector, then whether it is behind. Assumes nothing.
 use mathlib.Core.Path.{◌≡◌, sym, ◌∙◌}
 use native.Mathlib.Omega.{arith}
-use Rattle.reply.specs.declared.Verdict.TheVariants.{Fine}
-use Rattle.reply.specs.Replies.{first}
-use Rattle.reply.proofs.Numbers.{same_verdict}
+use Rattle.reply.specs.Replies.{first, fine}
 use Rattle.vec3d.proofs.Passing.{passed_long}
 use Rattle.face_projection.specs.Projection.{before_reasons}
 use Rattle.face_projection.proofs.Entering.{before, project_answers}
@@ -13,13 +11,13 @@ pub face_at-requires : goal.face_at-requires
 face_at-requires c =
     let a = c.args in
     -- past the first tests
-    let entered : first (before_reasons a.frame.now a.face a.level.0) ≡ Fine = sym c.verdict_before-before.ensures ∙ c.in-Fine.is in
+    let entered : first (before_reasons a.frame.now a.face a.level.0) ≡ fine = sym c.verdict_before.ensures ∙ c.in_ok-verdict_before.was in
     let b = before a.frame.now a.face a.level.0 entered in
     omega (arith, b.face, passed_long a.frame.now b.frame)
 
-pub returns-in-Fine-verdict : goal.returns-in-Fine-verdict
-returns-in-Fine-verdict c =
+pub returns : goal.returns
+returns c =
     let a = c.args in
-    let entered : first (before_reasons a.frame.now a.face a.level.0) ≡ Fine = sym c.verdict_before-before.ensures ∙ c.in-Fine.is in
-    let fine = sym (same_verdict c.verdict-verdict.ensures) ∙ c.in-Fine-verdict.is in
-    rw (c.project.ensures, c.face_at.ensures) (project_answers a.frame.now a.face a.level.0 a.p entered fine)
+    let entered : first (before_reasons a.frame.now a.face a.level.0) ≡ fine = sym c.verdict_before.ensures ∙ c.in_ok-verdict_before.was in
+    let clear = sym c.verdict.ensures ∙ c.in_ok-verdict.was in
+    rw (c.project.ensures, c.face_at.ensures) (project_answers a.frame.now a.face a.level.0 a.p entered clear)

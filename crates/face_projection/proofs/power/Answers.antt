@@ -8,4 +8,4 @@ use Rattle.face_projection.proofs.power.Goals as goal
 
 pub returns : goal.returns
 unfolding of_bits of_int seven_to
-returns c = table_at seven_to nan 8 (c.args.level / 2) (omega arith)
+returns c = table_at seven_to nan 8 (c.args.level.0 / 2) (omega arith)

@@ -1,15 +1,16 @@
--- `image_of` meets its contract: a point that is needed has its image, a refusal stays. Assumes nothing.
-use mathlib.Core.Path.{sym, ap, subst, ◌∙◌}
-use Rattle.globe.specs.AsWorked.{OnFace, imaged_of}
-use Rattle.globe.proofs.OnFaces.{on_face}
+-- `image_of` meets its contract: the rule of one point, with the face and the mark. Assumes nothing.
+use mathlib.Core.Path.{sym, ap, ◌∙◌}
+use native.Mathlib.Omega.{arith}
+use Rattle.std.specs.Prelude.{Ok}
+use Rattle.vec3d.proofs.Passing.{passed_long}
+use Rattle.globe.proofs.Images.{as_image, image_is}
 use Rattle.globe.proofs.image_of.Goals as goal
 
-pub image_of_point-requires : goal.image_of_point-requires
-image_of_point-requires c =
-    (c.requires.0, on_face (subst OnFace c.in-Point.is c.requires.1))
+pub face_at-requires : goal.face_at-requires
+face_at-requires c = omega (arith, c.requires.1, passed_long c.args.frame.now c.requires.0)
 
-pub returns-in-Point : goal.returns-in-Point
-returns-in-Point c = c.image_of_point.ensures ∙ ap (imaged_of _ _) (sym c.in-Point.is)
-
-pub returns-in-Refused : goal.returns-in-Refused
-returns-in-Refused c = ap (imaged_of _ _) (sym c.in-Refused.is)
+pub returns : goal.returns
+returns c =
+    let a = c.args in
+    ap Ok c.on.ensures ∙
+    (ap (as_image _ _) (sym c.in_ok-v.was) ∙ image_is a.frame.now a.scale a.p _ _ _ c.face_at.ensures c.new.ensures c.lift.ensures)

@@ -1,9 +1,9 @@
 -- `inside` meets its contract: three loops, each of which fills an array from what the one before left. Assumes nothing.
 use mathlib.Core.Path.{◌≡◌}
-use Prim.Native.Nat.{ℕ, ◌-◌, ◌≤◌, ◌<◌}
+use Prim.Native.Nat.{ℕ, ◌<◌}
 use lib.ListN.{get_or}
 use lib.Ieee.{nan}
-use Rattle.reply.specs.declared.Verdict.TheVariants.{Fine}
+use Rattle.reply.specs.Replies.{fine}
 use Rattle.root.specs.Root.{root_of}
 use Rattle.globe.specs.Boundaries.{no_sphere_point}
 use Rattle.globe.specs.AsWorked.{length_of, over_of}
@@ -15,28 +15,16 @@ use Rattle.globe.proofs.inside.Given as goal
 -- points in space and squared lengths of the first k corners
 abbrev pub invariant-loop-k : goal.invariant-loop-k
 invariant-loop-k l =
-    (l.k ≤ l.length) ×
     Filled unread 12 (far_at l.frame l.shape) (λ i. no_sphere_point) l.k l.points ×
     Filled nan 6 (square_at l.frame l.shape) (λ i. get_or l.initial.lengths i nan) l.k l.lengths
-
-abbrev pub decreases-loop-k : goal.decreases-loop-k
-decreases-loop-k l = l.length - l.k
 
 -- the first l of them are lengths, and none was refused
 abbrev pub invariant-loop-l : goal.invariant-loop-l
 invariant-loop-l l =
-    (l.l ≤ l.length) ×
     Filled nan 6 (λ i. root_of (get_or l.initial.lengths i nan)) (λ i. get_or l.initial.lengths i nan) l.l l.lengths ×
-    ((i : ℕ) → i < l.l → verdict_by (length_of (get_or l.initial.lengths i nan)) ≡ Fine)
-
-abbrev pub decreases-loop-l : goal.decreases-loop-l
-decreases-loop-l l = l.length - l.l
+    ((i : ℕ) → i < l.l → verdict_by (length_of (get_or l.initial.lengths i nan)) ≡ fine)
 
 -- the first m points are divided
 abbrev pub invariant-loop-m : goal.invariant-loop-m
 invariant-loop-m l =
-    (l.m ≤ l.length) ×
     Filled unread 12 (λ i. over_of (get_or l.lengths i nan) (get_or l.initial.points i unread)) (λ i. get_or l.initial.points i unread) l.m l.points
-
-abbrev pub decreases-loop-m : goal.decreases-loop-m
-decreases-loop-m l = l.length - l.m

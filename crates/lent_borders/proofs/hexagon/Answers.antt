@@ -1,6 +1,6 @@
 -- `hexagon` meets its contract: it gives out what the boundary of a hexagon is. Assumes nothing.
 use mathlib.Core.Path.{subst, ap, ◌∙◌}
-use Rattle.reply.specs.Replies.{Reply}
+use Rattle.reply.specs.Replies.{Reply, verdict_number}
 use Rattle.faceijk.specs.declared.Place.{Place}
 use Rattle.boundary.specs.Boundaries.{boundary_reply}
 use Rattle.lent.specs.Lent.{bits_of}
@@ -10,5 +10,5 @@ use Rattle.lent_borders.proofs.hexagon.Goals as goal
 pub returns : goal.returns
 returns c =
     let a = c.args in
-    subst (λ (r : Reply). GivesBoundary r a.marks.now c.give.new.marks (bits_of a.points.now) (bits_of c.give.new.points) c.give.result)
+    subst (λ (r : Reply). GivesBoundary r a.marks.now c.give.new.marks (bits_of a.points.now) (bits_of c.give.new.points) (verdict_number c.give.result))
     (c.hexagon_boundary-border.ensures ∙ ap (λ (p : Place). boundary_reply 6 p a.level a.start a.length) c.new.ensures) c.give.ensures

@@ -5,4 +5,4 @@ use Rattle.margin.proofs.reach.Goals as goal
 pub returns-clause-reaches : goal.returns-clause-reaches
 unfolding reach_in
 returns-clause-reaches c =
-    rw (c.most-2.ensures, c.most.ensures, c.gap-along_ij.ensures, c.gap-along_j.ensures, c.gap-along_i.ensures, c.step-j.ensures.steps, c.step-i.ensures.steps)
+    rw (c.max-2.ensures, c.max.ensures, c.gap-along_ij.ensures, c.gap-along_j.ensures, c.gap-along_i.ensures, c.step-j.ensures.steps, c.step-i.ensures.steps)

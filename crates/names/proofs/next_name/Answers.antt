@@ -1,19 +1,9 @@
 -- `next_name` meets its contract: on the edge it steps, elsewhere it stays. Assumes nothing.
 use mathlib.Core.Path.{sym, ap, ◌∙◌}
 use Prim.Native.Nat.{ℕ}
-use native.Mathlib.Omega.{arith}
 use Rattle.faceijk.specs.Steps.{step_of}
-use Rattle.faceijk.proofs.Taking.{okay_ready}
 use Rattle.names.specs.Row.{next_name}
-use Rattle.names.proofs.Sorts.{edge_range}
 use Rattle.names.proofs.next_name.Goals as goal
-
-pub over-requires : goal.over-requires
-over-requires c =
-    let a = c.args in
-    let pre = c.requires in
-    let e = edge_range a.p in
-    (okay_ready pre.0.okay, pre.0.okay.on, omega (arith, c.edge_at.ensures), omega (arith, c.edge_at.ensures), pre.1)
 
 pub returns-then-at_limit : goal.returns-then-at_limit
 unfolding next_name

@@ -1,19 +1,15 @@
 -- `halve` meets its contract: at each turn what is left to look through ends where it should. Assumes nothing.
 use mathlib.Core.Bool.{Bool}
-use mathlib.Core.List.{List}
-use Prim.Native.Nat.{ℕ, ◌-◌, ◌≤◌}
-use Rattle.faceijk.specs.declared.Place.{Place}
-use Rattle.region.specs.Places.{before}
-use Rattle.region.specs.Lists.{record_at}
+use mathlib.Core.Path.{◌≡◌}
+use Prim.Native.Nat.{ℕ, ◌-◌, ◌≤◌, ◌<◌}
 use Rattle.region.specs.Entries.{halved}
 use Rattle.region.proofs.Halving.{Going}
 use Rattle.region.proofs.halve.Given as goal
 
-abbrev low : List ℕ → Place → ℕ → Bool
-low s p = λ n. before (record_at s n) p
-
 abbrev pub invariant-loop-lo : goal.invariant-loop-lo
-invariant-loop-lo l = (l.lo ≤ l.hi) × (l.hi ≤ l.to) × Going (low l.list l.place) (halved (low l.list l.place) (l.to - l.from) l.from l.to) l.lo l.hi
+invariant-loop-lo g l =
+    (l.fn.from ≤ l.lo) × (l.lo ≤ l.hi) × (l.hi ≤ l.fn.to)
+    × ((low : ℕ → Bool) → ((n : ℕ) (b : Bool) → l.fn.from ≤ n → n < l.fn.to → goal.F-post g l.fn.is_low n b → b ≡ low n) → Going low (halved low (l.fn.to - l.fn.from) l.fn.from l.fn.to) l.lo l.hi)
 
 abbrev pub decreases-loop-lo : goal.decreases-loop-lo
-decreases-loop-lo l = l.hi - l.lo
+decreases-loop-lo g l = l.hi - l.lo

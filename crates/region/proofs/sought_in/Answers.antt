@@ -1,10 +1,15 @@
 -- `sought_in` meets its contract: its two starts stand in order, and not past the count. Assumes nothing.
 use mathlib.Core.Path.{◌≡◌, ap, ◌∙◌}
+use Prim.Native.Nat.{◌+◌, ◌*◌, ◌≤◌}
+use lib.ListN.{length}
+use Rattle.std.proofs.Common.{rules, tests}
 use native.Mathlib.Omega.{arith}
 use borrow.Author.Tests.{lt-ltb, le-ltb}
 use Rattle.faceijk.specs.declared.Place.{Place}
 use Rattle.faceijk.specs.Places.{same_place}
+use Rattle.faceijk.proofs.Unique.{is_equal}
 use Rattle.region.specs.Lists.{record_at, end_of}
+use Rattle.region.specs.Places.{before}
 use Rattle.region.specs.Entries.{stands_at, sought_in}
 use Rattle.region.proofs.Reading.{spanned}
 use Rattle.region.proofs.sought_in.Goals as goal
@@ -22,13 +27,16 @@ start_of-requires c =
 pub halve-at-requires : goal.halve-at-requires
 halve-at-requires c =
     let s = spanned _ _ c.requires.face_bound c.requires.face_value in
-    (omega (arith, s.ordered, c.end_of-end.ensures, c.start_of.ensures), omega (arith, s.is_long.fits, s.within, c.end_of-end.ensures))
+    record {
+      ordered = omega (arith, s.ordered, c.end_of-end.ensures, c.start_of.ensures);
+      callable = λ n a b. let there : 16 * n + 16 ≤ length c.args.list.now = omega (arith, s.is_long.fits, s.within, c.end_of-end.ensures) in search (rules, tests);
+    }
 
 pub returns-then-end-at : goal.returns-then-end-at
 unfolding stands_at sought_in
 returns-then-end-at c =
     let a = c.args in
-    let at : c.halve-at.result ≡ stands_at a.list.now a.place = c.halve-at.ensures.0 ∙ rw (c.end_of-end.ensures, c.start_of.ensures) in
+    let at : c.halve-at.result ≡ stands_at a.list.now a.place = c.halve-at.ensures.end (λ n. before (record_at a.list.now n) a.place) (λ n b m l e. search (rules, tests)) ∙ rw (c.end_of-end.ensures, c.start_of.ensures) in
     rw (le-ltb (stands_at a.list.now a.place) (end_of a.list.now a.place.face)
     (omega (arith, at, c.end_of-end.ensures, c.if-end-at.true)))
 
@@ -41,8 +49,8 @@ pub returns : goal.returns
 unfolding stands_at sought_in
 returns c =
     let a = c.args in
-    let at : c.halve-at.result ≡ stands_at a.list.now a.place = c.halve-at.ensures.0 ∙ rw (c.end_of-end.ensures, c.start_of.ensures) in
+    let at : c.halve-at.result ≡ stands_at a.list.now a.place = c.halve-at.ensures.end (λ n. before (record_at a.list.now n) a.place) (λ n b m l e. search (rules, tests)) ∙ rw (c.end_of-end.ensures, c.start_of.ensures) in
     rw (lt-ltb (stands_at a.list.now a.place) (end_of a.list.now a.place.face)
     (omega (arith, at, c.end_of-end.ensures, c.if-end-at.false)))
-    (c.is_same.ensures
+    (c.eq.ensures ∙ is_equal c.record_at.result a.place
     ∙ ap (λ (p : Place). same_place p a.place) (c.record_at.ensures ∙ ap (record_at a.list.now) at))

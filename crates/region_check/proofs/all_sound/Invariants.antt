@@ -1,14 +1,11 @@
--- `all_sound` meets its contract: the records so far stand in order. Assumes nothing.
+-- `all_sound` meets its contract: the places so far stand in order. Assumes nothing.
 use mathlib.Core.Path.{◌≡◌}
 use mathlib.Core.Bool.{true}
-use Prim.Native.Nat.{◌≤◌, ◌-◌}
-use Rattle.region.specs.Places.{all_to}
-use Rattle.region.specs.Lists.{record_at}
-use Rattle.region_check.specs.Sound.{sound_at}
+use Prim.Native.Nat.{ℕ, ◌<◌}
+use Rattle.faceijk.specs.declared.Place.{Place}
+use Rattle.region_check.specs.Sound.{sound_to}
 use Rattle.region_check.proofs.all_sound.Given as goal
 
 abbrev pub invariant-loop-n : goal.invariant-loop-n
-invariant-loop-n l = (l.n ≤ l.count) × (all_to (sound_at (record_at l.list)) l.n ≡ true)
-
-abbrev pub decreases-loop-n : goal.decreases-loop-n
-decreases-loop-n l = l.count - l.n
+invariant-loop-n g l =
+    (at : ℕ → Place) → ((n : ℕ) (p : Place) → n < l.fn.count → goal.F-post g l.fn.place_at n p → p ≡ at n) → sound_to at l.n ≡ true

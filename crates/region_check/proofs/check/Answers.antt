@@ -15,11 +15,3 @@ pub level_of-requires : goal.level_of-requires
 level_of-requires c =
     let right : passes c.args.list.now ≡ true = sym c.passes.ensures ∙ c.if-not-passes.false in
     omega (arith, (passed_all _ right).is_long.fits)
-
-pub returns-then-not-passes : goal.returns-then-not-passes
-returns-then-not-passes c = rw (sym c.passes.ensures ∙ c.if-not-passes.true)
-
-pub returns : goal.returns
-returns c =
-    let right : passes c.args.list.now ≡ true = sym c.passes.ensures ∙ c.if-not-passes.false in
-    rw (right, c.level_of.ensures, c.count_of.ensures.0)

@@ -2,6 +2,7 @@
 use mathlib.Core.Path.{◌≡◌, sym, ap, ◌∙◌}
 use mathlib.Core.Bool.{false}
 use native.Mathlib.Omega.{arith}
+use Rattle.std.proofs.Common.{rules, tests}
 use Rattle.region.specs.Lists.{record_at, count_of, wrong_length}
 use Rattle.region.proofs.Reading.{Long, long}
 use Rattle.region_check.specs.Sound.{sound_to}
@@ -41,13 +42,13 @@ pub returns-then-not-all_sound : goal.returns-then-not-all_sound
 unfolding passes
 returns-then-not-all_sound c =
     let length_right : wrong_length c.args.list.now ≡ false = sym c.wrong_length.ensures ∙ c.if-wrong_length.false in
-    let sounds : let s = c.args.list.now in sound_to (record_at s) (count_of s) ≡ c.all_sound.result = let s = c.args.list.now in sym (c.all_sound.ensures ∙ ap (sound_to (record_at s)) c.count_of-count.ensures.0) in
+    let sounds : let s = c.args.list.now in sound_to (record_at s) (count_of s) ≡ c.all_sound.result = let s = c.args.list.now in sym (c.all_sound.ensures (record_at s) (λ n p l e. search (rules, tests)) ∙ ap (sound_to (record_at s)) c.count_of-count.ensures.0) in
     rw (length_right, sounds ∙ c.if-not-all_sound.true)
 
 pub returns : goal.returns
 unfolding passes
 returns c =
     let length_right : wrong_length c.args.list.now ≡ false = sym c.wrong_length.ensures ∙ c.if-wrong_length.false in
-    let sounds : let s = c.args.list.now in sound_to (record_at s) (count_of s) ≡ c.all_sound.result = let s = c.args.list.now in sym (c.all_sound.ensures ∙ ap (sound_to (record_at s)) c.count_of-count.ensures.0) in
+    let sounds : let s = c.args.list.now in sound_to (record_at s) (count_of s) ≡ c.all_sound.result = let s = c.args.list.now in sym (c.all_sound.ensures (record_at s) (λ n p l e. search (rules, tests)) ∙ ap (sound_to (record_at s)) c.count_of-count.ensures.0) in
     let ok = sounds ∙ c.if-not-all_sound.false in
     rw (length_right, ok, ← (starts_same _ ok), c.starts_split.ensures, c.level_of.ensures)

@@ -1,31 +1,21 @@
--- `starts_split` meets its contract: the starts so far part the records. Assumes nothing.
-use mathlib.Core.Path.{◌≡◌, refl, sym, ◌∙◌}
+-- `starts_split` meets its contract: `all` asks of the twenty faces, one by one. Assumes nothing.
+use mathlib.Core.Path.{◌∙◌}
+use mathlib.Core.Bool.{Bool}
+use Prim.Native.Nat.{ℕ}
 use native.Mathlib.Omega.{arith}
-use Rattle.region.specs.Places.{all_to}
+use Rattle.std.proofs.Common.{rules, tests}
+use Rattle.std.proofs.lemmas.Iterator.{YieldsList-from_range}
+use Rattle.std.proofs.lemmas.Iterator.Search.{all_from_yields_List}
 use Rattle.region.specs.Lists.{start_of, count_of}
-use Rattle.region.proofs.Every.{all_more, all_fails}
+use Rattle.region.proofs.Every.{all_ranged}
 use Rattle.region_check.specs.Starts.{splits}
 use Rattle.region_check.specs.Checks.{face_at, starts_split}
 use Rattle.region_check.proofs.starts_split.Goals as goal
 
-pub loop-face-init : goal.loop-face-init
-unfolding all_to
-loop-face-init c = (omega arith, refl)
-
-pub start_splits-requires : goal.start_splits-requires
-start_splits-requires c = (c.requires.0, omega arith)
-
 pub returns : goal.returns
 unfolding starts_split
-returns c = let e : c.loop-face.face ≡ 20 = omega arith in rw e at (sym c.loop-face.invariant.1)
-
-pub loop-face-preserved : goal.loop-face-preserved
-loop-face-preserved c =
-    let right : let a = c.args.list.now in c.start_splits.result ≡ splits (face_at a) (count_of a) c.loop-face.face (start_of a c.loop-face.face) = rw c.requires.1 at c.start_splits.ensures in
-    (omega arith, all_more _ _ c.loop-face.invariant.1 (sym right ∙ c.if-not-start_splits.false))
-
-pub returns-then-not-start_splits : goal.returns-then-not-start_splits
-unfolding starts_split
-returns-then-not-start_splits c =
-    let right : let a = c.args.list.now in c.start_splits.result ≡ splits (face_at a) (count_of a) c.loop-face.face (start_of a c.loop-face.face) = rw c.requires.1 at c.start_splits.ensures in
-    sym (all_fails _ _ _ c.loop-face-test.true (sym right ∙ c.if-not-start_splits.true))
+returns c =
+    let s = c.args.list.now in
+    let right : ℕ → Bool = λ f. splits (face_at s) (count_of s) f (start_of s f) in
+    let count = c.requires.1 in
+    all_from_yields_List right _ _ _ c.all.ensures.ran (YieldsList-from_range 0 20 20 (cc) (omega arith)) (λ x b q k. search (rules, tests)) ∙ all_ranged right 20

@@ -1,5 +1,5 @@
 -- `put_starts` meets its contract: the loop has put the starts of the faces so far. Assumes nothing.
-use mathlib.Core.Path.{◌≡◌, refl, ap, ◌∙◌}
+use mathlib.Core.Path.{refl, ap, ◌∙◌}
 use Prim.Native.Nat.{ℕ, ◌*◌}
 use native.Mathlib.Omega.{arith}
 use borrow.Author.Rules.{rules}
@@ -16,26 +16,13 @@ use Rattle.region_write.proofs.put_starts.Goals as goal
 
 pub loop-face-init : goal.loop-face-init
 unfolding rows_to
-loop-face-init c = (omega arith, refl, record { rows = refl })
-
-pub overflow_cast-face : goal.overflow_cast-face
-overflow_cast-face c = record { fits = omega arith }
-
-pub overflow_cast-start : goal.overflow_cast-start
-overflow_cast-start c = record { fits = omega (arith, c.begin_of-start.ensures.1) }
+loop-face-init c = (refl, record { rows = refl })
 
 pub loop-face-preserved : goal.loop-face-preserved
 loop-face-preserved c =
     let l = c.loop-face in
     let a = c.args in
     let stored = c.put_word.ensures ∙ ap (λ (x : ℕ). sets l.out (4 * l.face) (word_bytes x)) c.begin_of-start.ensures.0 in (
-      omega arith,
       search rules,
-      record { rows = stored ∙ rw l.invariant.2.rows (rows_more 4 (start_bytes (place_in a.rows.now) a.count) (λ f. bytes_length (begins (faces_of (place_in a.rows.now)) a.count f)) l.face a.out.now (omega arith)) },
+      record { rows = stored ∙ rw l.invariant.1.rows (rows_more 4 (start_bytes (place_in a.rows.now) a.count) (λ f. bytes_length (begins (faces_of (place_in a.rows.now)) a.count f)) l.face a.out.now (omega arith)) },
     )
-
-pub returns : goal.returns
-returns c = let done : c.loop-face.face ≡ 20 = omega arith in rw done at c.loop-face.invariant.2
-
-pub begin_of-start-requires : goal.begin_of-start-requires
-begin_of-start-requires c = let p = c.requires.count_in_bounds in (p.0, p.1, omega arith)

@@ -7,4 +7,4 @@ use Rattle.region_write.proofs.put_tail.Goals as goal
 pub returns : goal.returns
 returns c =
     c.put_pair.ensures
-    ∙ tail_put (place_in c.args.rows.now) c.args.count c.args.level c.args.out.now _ c.requires.count_bound.1 c.put_starts.ensures.rows
+    ∙ tail_put (place_in c.args.rows.now) c.args.count c.args.level.0 c.args.out.now _ c.requires.count_bound.1 c.put_starts.ensures.rows

@@ -3,36 +3,30 @@ use mathlib.Core.Path.{◌≡◌, sym, ◌∙◌}
 use Prim.Native.Nat.{◌+◌, ◌*◌}
 use native.Mathlib.Omega.{arith}
 use lib.ListN.{length}
-use Rattle.reply.specs.declared.Verdict.TheVariants.{Fine}
-use Rattle.reply.proofs.Numbers.{same_verdict}
+use Rattle.reply.specs.Replies.{fine}
 use Rattle.region_write.specs.Signed.{place_in}
 use Rattle.region_write.specs.Writing.{row_count, write_verdict}
 use Rattle.region_write.proofs.Putting.{out_long, lent_long, file_put}
-use Rattle.region_write.proofs.Ready.{Ready, ready, write_answers, write_refuses}
+use Rattle.region_write.proofs.Ready.{Ready, ready, write_answers}
 use Rattle.region_write.proofs.write.Goals as goal
 
 pub put_places-requires : goal.put_places-requires
 put_places-requires c =
-    let entered : let a = c.args in write_verdict a.level.0 a.rows.now (length a.out.now) ≡ Fine = sym (same_verdict c.write_verdict-verdict.ensures) ∙ c.in-Fine.is in
+    let entered : let a = c.args in write_verdict a.level.0 a.rows.now (length a.out.now) ≡ fine = sym c.write_verdict.ensures ∙ c.in_ok-write_verdict.was in
     let able : let a = c.args in Ready a.level.0 a.rows.now (length a.out.now) = let a = c.args in ready a.level.0 a.rows.now (length a.out.now) entered in
     omega (arith, able.room)
 
-pub returns-in-Fine : goal.returns-in-Fine
-returns-in-Fine c =
-    let entered : let a = c.args in write_verdict a.level.0 a.rows.now (length a.out.now) ≡ Fine = sym (same_verdict c.write_verdict-verdict.ensures) ∙ c.in-Fine.is in
+pub returns : goal.returns
+returns c =
+    let entered : let a = c.args in write_verdict a.level.0 a.rows.now (length a.out.now) ≡ fine = sym c.write_verdict.ensures ∙ c.in_ok-write_verdict.was in
     let able : let a = c.args in Ready a.level.0 a.rows.now (length a.out.now) = let a = c.args in ready a.level.0 a.rows.now (length a.out.now) entered in
     let a = c.args in
     write_answers a.level.0 a.rows.now a.out.now _ entered
     (file_put (place_in a.rows.now) (row_count a.rows.now) a.level.0 a.out.now _ able.room c.put_places.ensures.rows _ c.put_tail.ensures)
 
-pub returns-in-Refused : goal.returns-in-Refused
-returns-in-Refused c =
-    let a = c.args in
-    write_refuses a.level.0 a.rows.now a.out.now _ (sym (same_verdict c.write_verdict-verdict.ensures) ∙ c.in-Refused.is)
-
 pub put_tail-requires : goal.put_tail-requires
 put_tail-requires c =
-    let entered : let a = c.args in write_verdict a.level.0 a.rows.now (length a.out.now) ≡ Fine = sym (same_verdict c.write_verdict-verdict.ensures) ∙ c.in-Fine.is in
+    let entered : let a = c.args in write_verdict a.level.0 a.rows.now (length a.out.now) ≡ fine = sym c.write_verdict.ensures ∙ c.in_ok-write_verdict.was in
     let able : let a = c.args in Ready a.level.0 a.rows.now (length a.out.now) = let a = c.args in ready a.level.0 a.rows.now (length a.out.now) entered in
     let a = c.args in
     let k = able in
@@ -40,7 +34,7 @@ put_tail-requires c =
 
 pub slice_bounds-put_tail-count : goal.slice_bounds-put_tail-count
 slice_bounds-put_tail-count c =
-    let entered : let a = c.args in write_verdict a.level.0 a.rows.now (length a.out.now) ≡ Fine = sym (same_verdict c.write_verdict-verdict.ensures) ∙ c.in-Fine.is in
+    let entered : let a = c.args in write_verdict a.level.0 a.rows.now (length a.out.now) ≡ fine = sym c.write_verdict.ensures ∙ c.in_ok-write_verdict.was in
     let able : let a = c.args in Ready a.level.0 a.rows.now (length a.out.now) = let a = c.args in ready a.level.0 a.rows.now (length a.out.now) entered in
     let wrote_long : let a = c.args in length c.put_places.new.out ≡ 88 + 16 * row_count a.rows.now = let a = c.args in
     out_long (place_in a.rows.now) (row_count a.rows.now) a.level.0 a.out.now _ able.room c.put_places.ensures.rows in
@@ -48,7 +42,7 @@ slice_bounds-put_tail-count c =
 
 pub slice_bounds-put_tail-start : goal.slice_bounds-put_tail-start
 slice_bounds-put_tail-start c =
-    let entered : let a = c.args in write_verdict a.level.0 a.rows.now (length a.out.now) ≡ Fine = sym (same_verdict c.write_verdict-verdict.ensures) ∙ c.in-Fine.is in
+    let entered : let a = c.args in write_verdict a.level.0 a.rows.now (length a.out.now) ≡ fine = sym c.write_verdict.ensures ∙ c.in_ok-write_verdict.was in
     let able : let a = c.args in Ready a.level.0 a.rows.now (length a.out.now) = let a = c.args in ready a.level.0 a.rows.now (length a.out.now) entered in
     let wrote_long : let a = c.args in length c.put_places.new.out ≡ 88 + 16 * row_count a.rows.now = let a = c.args in
     out_long (place_in a.rows.now) (row_count a.rows.now) a.level.0 a.out.now _ able.room c.put_places.ensures.rows in

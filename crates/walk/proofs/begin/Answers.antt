@@ -3,12 +3,12 @@ use mathlib.Core.Path.{sym, ap, ◌∙◌}
 use Rattle.walk.specs.Texts.{begun_from}
 use Rattle.walk.proofs.begin.Goals as goal
 
-pub returns-in-Line : goal.returns-in-Line
-returns-in-Line c =
+pub returns-in-Some : goal.returns-in-Some
+returns-in-Some c =
     let r = c.read_line-reading in
-    record { reading = r.result; read = r.ensures; state = c.begin_at.ensures ∙ ap begun_from (sym c.in-Line.is) }
+    record { reading = r.result; read = r.ensures; state = c.begin_at.ensures ∙ ap begun_from (sym c.in-Some.is) }
 
-pub returns-in-BadLine : goal.returns-in-BadLine
-returns-in-BadLine c =
+pub returns-in-None : goal.returns-in-None
+returns-in-None c =
     let r = c.read_line-reading in
-    record { reading = r.result; read = r.ensures; state = ap begun_from (sym c.in-BadLine.is) }
+    record { reading = r.result; read = r.ensures; state = ap begun_from (sym c.in-None.is) }

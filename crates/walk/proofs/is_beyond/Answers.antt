@@ -7,13 +7,13 @@ use Rattle.level.proofs.Unique.{grid_told, grid_refused}
 use Rattle.faceijk.specs.Places.{sum_at}
 use Rattle.walk.proofs.is_beyond.Goals as goal
 
-pub returns-in-Done : goal.returns-in-Done
-returns-in-Done c =
+pub returns-in-Ok : goal.returns-in-Ok
+returns-in-Ok c =
     let a = c.args in
     let s = c.sum-sum in
-    λ ok. rw s.ensures (ap (λ (g : Grid). ltb g.limit (sum_at a.p)) (grid_told a.level.0 a.substrate c.in-Done.is c.grid-gridded.ensures).1)
+    λ ok. rw (c.from.ensures, s.ensures) (ap (λ (g : Grid). ltb g.limit (sum_at a.p)) (grid_told a.level.0 a.substrate c.in-Ok.is c.grid.ensures).1)
 
-pub returns-in-Refused : goal.returns-in-Refused
-returns-in-Refused c =
+pub returns-in-Err : goal.returns-in-Err
+returns-in-Err c =
     let a = c.args in
-    λ ok. absurd (true≢false (sym (grid_refused a.level.0 a.substrate c.in-Refused.is c.grid-gridded.ensures).0 ∙ ok))
+    λ ok. absurd (true≢false (sym (grid_refused a.level.0 a.substrate c.in-Err.is c.grid.ensures).0 ∙ ok))

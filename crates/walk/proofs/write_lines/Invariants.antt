@@ -1,14 +1,11 @@
 -- `write_lines` meets its contract: whole lines so far, and a stop where the loop ends. Assumes nothing.
-use mathlib.Core.Path.{◌≡◌}
-use mathlib.Core.Bool.{false}
-use Prim.Native.Nat.{◌+◌, ◌-◌}
+use Prim.Native.Nat.{◌-◌}
 use lib.ListN.{length}
-use Rattle.level.specs.Levels.{bit}
-use Rattle.walk.specs.Writing.{Begun, Stopped}
+use Rattle.walk.specs.Writing.{Begun}
 use Rattle.walk.proofs.write_lines.Given as goal
 
-abbrev pub invariant-loop-more : goal.invariant-loop-more
-invariant-loop-more l = Begun l.initial.w.state l.initial.buf l.buf l.w × (l.more ≡ false → Stopped (length l.buf - l.w.len) l.w.state)
+abbrev pub invariant-loop-w : goal.invariant-loop-w
+invariant-loop-w l = Begun l.initial.w.state l.initial.buf l.buf l.w
 
-abbrev pub decreases-loop-more : goal.decreases-loop-more
-decreases-loop-more l = (length l.initial.buf - l.w.len) + bit l.more
+abbrev pub decreases-loop-w : goal.decreases-loop-w
+decreases-loop-w l = length l.initial.buf - l.w.len

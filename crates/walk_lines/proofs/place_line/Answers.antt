@@ -11,7 +11,7 @@ put_byte-requires c =
     let fits : Fits c.args.p = record { face = search rules; i = search rules; j = search rules; k = search rules } in
     let a = c.put_word-start.ensures in
     let b = c.put_place-end.ensures in
-    omega (arith, c.requires, a.end, put_length a, b.end, put_length b, place_short c.args.p fits)
+    omega (arith, a.end, put_length a, b.end, put_length b, place_short c.args.p fits)
 
 pub returns : goal.returns
 unfolding place_line

@@ -12,7 +12,7 @@ put_spaced-end-requires c =
     let fits : Fits c.args.rested.place = record { face = search rules; i = search rules; j = search rules; k = search rules } in
     let a = c.put_word-start.ensures in
     let b = c.put_place-placed.ensures in
-    omega (arith, c.requires, a.end, put_length a, b.end, put_length b, place_short c.args.rested.place fits)
+    omega (arith, a.end, put_length a, b.end, put_length b, place_short c.args.rested.place fits)
 
 pub put_byte-requires : goal.put_byte-requires
 put_byte-requires c =
@@ -22,7 +22,7 @@ put_byte-requires c =
     let d = c.put_spaced-end.ensures in
     let place = place_short c.args.rested.place fits in
     let steps = field_short20 c.args.rested.steps (search rules) in
-    omega (arith, c.requires, a.end, put_length a, b.end, put_length b, d.end, put_length d)
+    omega (arith, a.end, put_length a, b.end, put_length b, d.end, put_length d)
 
 pub returns : goal.returns
 unfolding rest_line

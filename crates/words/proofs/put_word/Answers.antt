@@ -1,15 +1,14 @@
--- `put_word` meets its contract: four stores, one after the other. Assumes nothing.
-use mathlib.Core.Path.{◌≡◌}
-use Prim.Native.Nat.{suc, ◌+◌}
-use native.Mathlib.Numerals.{add-one}
+-- `put_word` meets its contract: the number's four bytes stand where the slice's four did. Assumes nothing.
+use mathlib.Core.Path.{refl, sym, ◌∙◌}
 use native.Mathlib.Omega.{arith}
+use lib.Seq.{sets-eq, take-length}
+use Rattle.std.proofs.lemmas.Slice.{put_mid-paste}
 use Rattle.words.specs.Words.{word_bytes}
 use Rattle.words.proofs.put_word.Goals as goal
 
 pub returns : goal.returns
 unfolding word_bytes
 returns c =
-    let at = c.args.at in
-    let e2 : at + 2 ≡ suc (suc at) = omega arith in
-    let e3 : at + 3 ≡ suc (suc (suc at)) = omega arith in
-    rw (add-one, e2, e3)
+    let a = c.args in
+    put_mid-paste a.at _ a.out.now _ (word_bytes a.word) 4 (cc) (omega arith) refl
+    ∙ rw (take-length (word_bytes a.word)) (sym (sets-eq (word_bytes a.word) a.out.now a.at (omega arith)))

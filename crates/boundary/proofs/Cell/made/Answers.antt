@@ -8,9 +8,6 @@ use Rattle.boundary.specs.Landing.{cell_of}
 use Rattle.boundary.proofs.Cells.{level_taken}
 use Rattle.boundary.proofs.Cell.made.Goals as goal
 
-pub through_apertures-c-requires : goal.through_apertures-c-requires
-through_apertures-c-requires c = rw c.coord.ensures c.requires.0
-
 pub overflow_mul-result : goal.overflow_mul-result
 overflow_mul-result c =
     let taken : bad_grid c.grid_level-grid.result.0 ≡ false = rw c.grid_level-grid.ensures (level_taken c.args.level.0 c.requires.1) in

@@ -1,34 +1,31 @@
 -- `Cell::pentagon_crossing` meets its contract: no edge is refused, and the second corner is stepped over. Assumes nothing.
+use Rattle.std.proofs.lemmas.Result.{err_from_is_err_and}
+use Rattle.reply.specs.declared.Refusal.TheVariants.{NotAdjacent}
 use Rattle.faceijk.specs.Steps.{step_of}
-use Rattle.faceijk.proofs.Taking.{okay_ready, edge_low}
+use Rattle.faceijk.proofs.Numbers.{good_edge, numbered_is, numbered_err}
 use Rattle.boundary.specs.CrossingPoints.{taken_over, pentagon_crossing}
 use Rattle.boundary.proofs.Cell.pentagon_crossing.Goals as goal
 
-pub returns-then-edge : goal.returns-then-edge
+pub returns-in_err-edge : goal.returns-in_err-edge
 unfolding pentagon_crossing
-returns-then-edge c = rw (← c.edge_to-edge.ensures, c.if-edge.true)
-
-pub back_edge-back-requires : goal.back_edge-back-requires
-back_edge-back-requires c = let e = edge_low _ c.if-edge.false in (c.requires.0.on, e.0, e.1)
-
-pub over-over-requires : goal.over-over-requires
-over-over-requires c =
-    let pre = c.requires in
-    let e = edge_low _ c.if-edge.false in
-    (okay_ready pre.0, pre.0.on, e.0, e.1, pre.2)
+returns-in_err-edge c =
+    let out = err_from_is_err_and c.from_residual.result c.from_residual.ensures.1 in
+    let none = numbered_err NotAdjacent _ c.in_err-edge.was c.edge_to.ensures in
+    rw (out.1, out.2, none.1, none.0)
 
 pub returns : goal.returns
 unfolding pentagon_crossing taken_over step_of
 returns c =
     let pre = c.requires in
+    let is = numbered_is NotAdjacent _ c.in_ok-edge.was c.edge_to.ensures in
     rw (
       c.cross_at.ensures,
       c.from_ijk-b.ensures,
       c.coord.ensures,
       c.over-over.ensures,
       c.back_edge-back.ensures,
-      ← c.edge_to-edge.ensures,
-      c.if-edge.false,
+      ← is,
+      good_edge c.in_ok-edge.edge,
       pre.1,
       pre.3,
     )

@@ -2,7 +2,6 @@
 use mathlib.Core.Path.{◌∙◌, sym, ap}
 use Prim.Native.Nat.{ℕ}
 use Rattle.boundary.specs.CrossingPoints.{hexagon_crossing}
-use Rattle.boundary.proofs.Landing.{fit_upto, vertex_low}
 use Rattle.boundary.proofs.Needed.{not_needed, hexagon_needed}
 use Rattle.boundary.proofs.Shape.hexagon_before.Goals as goal
 
@@ -10,11 +9,6 @@ pub returns-then-bare : goal.returns-then-bare
 returns-then-bare c =
     let a = c.args in
     not_needed a.self a.k a.last a.now (sym c.bare.ensures ∙ c.if-bare.true)
-
-pub hexagon_crossing-requires : goal.hexagon_crossing-requires
-hexagon_crossing-requires c =
-    let f = c.requires.0 in
-    (fit_upto f, f.solid.on, rw c.vertex.ensures (vertex_low c.args.self c.args.k f.solid))
 
 pub returns : goal.returns
 returns c =

@@ -28,36 +28,13 @@ next s d points k p q now at is h =
 
 pub loop-k-init : goal.loop-k-init
 unfolding room_with
-loop-k-init c = (omega arith, begun c.args.self)
-
-pub corner-requires : goal.corner-requires
-corner-requires c = (c.requires.0.fit, omega (arith, c.requires.1))
-
-pub overflow_cast-points : goal.overflow_cast-points
-overflow_cast-points c =
-    let below : c.loop-k.k < 6 = omega (arith, c.requires.1, c.requires.0.hexagon) in
-    omega (arith, below)
-
-pub offset_bounds-points-k : goal.offset_bounds-points-k
-offset_bounds-points-k c =
-    let below : c.loop-k.k < 6 = omega (arith, c.requires.1, c.requires.0.hexagon) in
-    omega (arith, below)
-
-pub bounds-points-k : goal.bounds-points-k
-bounds-points-k c =
-    let below : c.loop-k.k < 6 = omega (arith, c.requires.1, c.requires.0.hexagon) in
-    omega (arith, below)
-
-pub overflow_add-k : goal.overflow_add-k
-overflow_add-k c =
-    let below : c.loop-k.k < 6 = omega (arith, c.requires.1, c.requires.0.hexagon) in
-    omega (arith, below)
+loop-k-init c = begun c.args.self
 
 pub loop-k-preserved : goal.loop-k-preserved
 loop-k-preserved c =
-    (omega arith, next c.args.self c.requires.0 _ _ _ _ c.loop-k.invariant.1 c.corner.ensures c.corner-in-loop-k.ensures (omega (arith, c.requires.1)))
+    next c.args.self c.requires.0 _ _ _ _ c.loop-k.invariant c.corner.ensures c.corner-in-loop-k.ensures (omega (arith, c.requires.1))
 
 pub returns : goal.returns
 returns c =
-    let done : c.loop-k.k ≡ c.args.length = omega (arith, c.loop-k.invariant.0) in
-    rw (← done) (full c.args.self c.requires.0 _ _ _ _ c.loop-k.invariant.1 (omega (arith, c.requires.1)))
+    let done : c.loop-k.k ≡ c.args.length = omega arith in
+    rw (← done) (full c.args.self c.requires.0 _ _ _ _ c.loop-k.invariant (omega (arith, c.requires.1)))

@@ -4,22 +4,14 @@ use Prim.Native.Nat.{◌*◌, ◌≤◌, ◌<◌}
 use borrow.Author.Tests.{lt-ltb, le-ltb}
 use Rattle.faceijk.specs.Places.{sum_at}
 use Rattle.boundary.specs.AsWalked.{within_of}
-use Rattle.boundary.proofs.Verdicts.{turns_few}
 use Rattle.boundary.proofs.Shape.pentagon.Goals as goal
 
-pub returns-then-self-sum : goal.returns-then-self-sum
+pub returns-then-limit-sum : goal.returns-then-limit-sum
 unfolding within_of
-returns-then-self-sum c =
+returns-then-limit-sum c =
     let s = c.args.self in
     let far : 3 * s.cell.m < sum_at s.cell.centre = omega (arith, c.sum.ensures) in
-    rw (lt-ltb _ _ far, c.refused.ensures)
-
-pub pentagon_walk-requires : goal.pentagon_walk-requires
-pentagon_walk-requires c = (
-  record { solid = c.requires.0; near = omega (arith, c.sum.ensures) },
-  omega (arith, c.turns_for.ensures, turns_few 5 c.args.length (omega (arith, c.requires.1, c.requires.2)), c.requires.2),
-  c.requires.2,
-)
+    rw (lt-ltb _ _ far)
 
 pub returns : goal.returns
 unfolding within_of

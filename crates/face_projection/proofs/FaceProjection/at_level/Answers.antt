@@ -14,6 +14,6 @@ returns-then-level-eq0 c = rw (eq-eqb _ _ c.if-level-eq0.true, c.new.ensures, c.
 pub returns : goal.returns
 unfolding at_level odd_level of_bits
 returns c =
-    let l = c.args.level in
+    let l = c.args.level.0 in
     let halves : l / 2 ≡ (l - 1) / 2 = omega arith in
     rw (ne_eqb _ _ c.if-level-eq0.false, c.new-2.ensures, c.power-scale.ensures, halves)

@@ -1,28 +1,10 @@
 -- `Place::cross` meets its contract: its tests give the grid, and the crossing is made on it. Assumes nothing.
 use mathlib.Core.Bool.{false}
-use mathlib.Core.Path.{◌∙◌, ap}
-use Rattle.reply.specs.Replies.{answer}
-use Rattle.reply.proofs.Entries.{answers, refuses}
-use Rattle.level.specs.declared.Grid.{Grid}
-use Rattle.faceijk.specs.declared.Landed.{Landed}
-use Rattle.faceijk.specs.Crossing.{crossing_of}
-use Rattle.faceijk.specs.Entries.{landed_values}
-use Rattle.faceijk.proofs.Taking.{entered, turned_away}
+use Rattle.faceijk.proofs.Taking.{entered}
 use Rattle.faceijk.proofs.Place.cross.Goals as goal
 
 pub crossed-requires : goal.crossed-requires
 crossed-requires c =
     let a = c.args in
-    let t = entered a.self a.level.0 a.substrate false c.in-Fine.is c.on_grid-on.ensures in
+    let t = entered a.self a.level.0 a.substrate false c.in_ok-grid.was c.on_grid.ensures in
     (t.okay, t.sound)
-
-pub returns-in-Fine : goal.returns-in-Fine
-returns-in-Fine c =
-    let a = c.args in
-    let t = entered a.self a.level.0 a.substrate false c.in-Fine.is c.on_grid-on.ensures in
-    answers 5 _ _ _ t.fine (ap (λ (x : Landed). answer (landed_values x)) (c.crossed.ensures ∙ ap (λ (g : Grid). crossing_of a.turn g a.self) t.is))
-
-pub returns-in-Refused : goal.returns-in-Refused
-returns-in-Refused c =
-    let a = c.args in
-    refuses 5 _ _ _ (turned_away a.self a.level.0 a.substrate false c.in-Refused.is c.on_grid-on.ensures)

@@ -11,17 +11,17 @@ pub returns-then-on_edge-2 : goal.returns-then-on_edge-2
 returns-then-on_edge-2 c =
     c.landing-then-on_edge-2.ensures ∙
     goes _ _ _ _ c.on_edge.ensures
-    c.if-on_edge.false (omega arith) _ _ c.out-next.ensures
-    (sym c.if-on_edge-2.true ∙ c.on_edge-then-grid-sum.ensures)
+    c.if-on_edge.false (omega (arith, c.from.ensures)) _ _ c.out-next.ensures
+    (sym c.if-on_edge-2.true ∙ c.on_edge-then-from-sum.ensures)
 
-pub returns-then-grid-sum : goal.returns-then-grid-sum
-returns-then-grid-sum c =
-    c.landing-then-grid-sum.ensures ∙
+pub returns-then-from-sum : goal.returns-then-from-sum
+returns-then-from-sum c =
+    c.landing-then-from-sum.ensures ∙
     goes _ _ _ _ c.on_edge.ensures
-    c.if-on_edge.false (omega arith) _ _ c.out-next.ensures
-    (sym c.if-on_edge-2.false ∙ c.on_edge-then-grid-sum.ensures)
+    c.if-on_edge.false (omega (arith, c.from.ensures)) _ _ c.out-next.ensures
+    (sym c.if-on_edge-2.false ∙ c.on_edge-then-from-sum.ensures)
 
 pub returns : goal.returns
 returns c =
     c.landing-2.ensures ∙
-    stays _ _ _ _ c.on_edge.ensures c.if-on_edge.false (omega arith)
+    stays _ _ _ _ c.on_edge.ensures c.if-on_edge.false (omega (arith, c.from.ensures))

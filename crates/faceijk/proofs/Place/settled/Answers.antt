@@ -1,14 +1,10 @@
 -- `Place::settled` meets its contract. The loop's invariant: the steps made so far are those of the settling, and what is left of it is the whole; Q falls. Assumes nothing.
-use mathlib.Core.Path.{refl}
 use native.Mathlib.Omega.{arith}
 use Rattle.faceijk.proofs.Settling.{going, going_few, going_less, going_on, going_end}
 use Rattle.faceijk.proofs.Place.settled.Goals as goal
 
 pub loop-sum-init : goal.loop-sum-init
-loop-sum-init c = (going _ _ c.requires.1 c.requires.0, refl, c.sum-sum.ensures)
-
-pub out-place-requires : goal.out-place-requires
-out-place-requires c = let now = c.loop-sum.invariant.0 in (now.okay, now.sound)
+loop-sum-init c = (going _ _ c.requires.1 c.requires.0, c.from-limit.ensures, c.sum-sum.ensures)
 
 pub overflow_add-steps : goal.overflow_add-steps
 overflow_add-steps c = record { fits = omega (arith, going_few _ _ _ _ c.loop-sum.invariant.0) }

@@ -3,35 +3,24 @@ use mathlib.Core.List.{[], ◌∷◌}
 use mathlib.Core.Path.{◌∙◌, sym, ap}
 use Prim.Native.Nat.{ℕ, ◌*◌}
 use native.Mathlib.Omega.{arith}
-use Rattle.reply.specs.Replies.{answer}
-use Rattle.reply.proofs.Entries.{answers, refuses}
-use Rattle.reply.proofs.Numbers.{same_verdict}
-use Rattle.level.specs.Levels.{bit, grid_verdict}
+use Rattle.reply.specs.Replies.{answer, bit}
+use Rattle.reply.proofs.Entries.{answers}
+use Rattle.level.specs.Levels.{grid_verdict}
 use Rattle.level.proofs.Sizes.{grid_sound, limit_twice}
 use Rattle.level.proofs.Taking.{grid_fine, grid_low}
 use Rattle.level.proofs.GridLevel.grid.Goals as goal
-
-pub unit-unit-requires : goal.unit-unit-requires
-unit-unit-requires c =
-    let l = c.args.self.0 in
-    grid_low l (grid_fine l (sym (same_verdict c.verdict-verdict.ensures) ∙ c.in-Fine.is))
 
 pub overflow_mul-result : goal.overflow_mul-result
 overflow_mul-result c =
     let a = c.args in
     let l = a.self.0 in
-    let low = grid_low l (grid_fine l (sym (same_verdict c.verdict-verdict.ensures) ∙ c.in-Fine.is)) in
+    let low = grid_low l (grid_fine l (sym c.verdict.ensures ∙ c.in_ok-verdict.was)) in
     omega (arith, c.unit-unit.ensures, (grid_sound l a.substrate low).small)
 
-pub returns-in-Fine : goal.returns-in-Fine
-returns-in-Fine c =
+pub returns : goal.returns
+returns c =
     let a = c.args in
     let u = c.unit-unit.ensures in
     let m = ap (λ (u : ℕ). 2 * u) u ∙ sym (limit_twice a.self.0 a.substrate) in
-    answers 3 (grid_verdict a.self.0) _ _ (sym (same_verdict c.verdict-verdict.ensures) ∙ c.in-Fine.is)
+    answers 3 (grid_verdict a.self.0) _ _ (sym c.verdict.ensures ∙ c.in_ok-verdict.was)
     (λ n. answer (u n ∷ m n ∷ bit a.substrate ∷ []))
-
-pub returns-in-Refused : goal.returns-in-Refused
-returns-in-Refused c =
-    refuses 3 (grid_verdict c.args.self.0) _ _
-    (sym (same_verdict c.verdict-verdict.ensures) ∙ c.in-Refused.is)

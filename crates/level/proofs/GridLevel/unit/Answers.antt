@@ -1,16 +1,10 @@
 -- `GridLevel::unit` meets its contract: the table has the powers of 7. Assumes nothing.
 use mathlib.Core.Path.{ap}
-use Prim.Native.Nat.{ℕ, ◌*◌, ◌/◌}
+use Prim.Native.Nat.{ℕ, ◌*◌}
 use native.Mathlib.Omega.{arith}
 use Rattle.level.specs.Levels.{unit_of}
-use Rattle.level.proofs.Sizes.{units, units_are, power_small}
+use Rattle.level.proofs.Sizes.{units, units_are}
 use Rattle.level.proofs.GridLevel.unit.Goals as goal
-
-pub overflow_mul-result : goal.overflow_mul-result
-unfolding units
-overflow_mul-result c =
-    let h = c.args.self.0 / 2 in
-    omega (arith, units_are h (omega arith), power_small h (omega arith))
 
 pub returns-then-substrate : goal.returns-then-substrate
 unfolding units unit_of

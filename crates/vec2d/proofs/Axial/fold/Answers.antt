@@ -1,16 +1,19 @@
 -- `Axial::fold` meets its contract: what the folds come to. Assumes nothing.
-use native.Mathlib.Omega.{arith}
-use Rattle.vec2d.proofs.Folding.{lifted, most_is, flattened}
+use mathlib.Core.Path.{◌≡◌, refl}
+use mathlib.Core.Bool.{Bool, true, false}
+use Prim.Native.Nat.{ℕ}
+use Rattle.std.specs.Bool.{if◌then◌else◌}
+use Rattle.reply.specs.Choice.{pick}
+use Rattle.vec2d.proofs.Folding.{lifted, flattened}
 use Rattle.vec2d.proofs.Axial.fold.Goals as goal
 
-pub overflow_sub-most : goal.overflow_sub-most
-overflow_sub-most c = rw (c.either-most.ensures, most_is) (omega arith)
-
-pub overflow_sub-most-2 : goal.overflow_sub-most-2
-overflow_sub-most-2 c = rw (c.either-most.ensures, most_is) (omega arith)
+-- the library's choice is the paper's
+picked : (t : Bool) (a b : ℕ) → (if t then a else b) ≡ pick t a b
+picked true a b = refl
+picked false a b = refl
 
 pub returns : goal.returns
 returns c =
     let a = c.args in
-    rw (c.new.ensures, c.either-2.ensures, c.either.ensures, c.either-third.ensures, c.either-second.ensures, c.either-first.ensures, c.either-most.ensures, most_is, lifted)
+    rw (c.new.ensures, c.select_unpredictable-2.ensures, c.select_unpredictable.ensures, c.select_unpredictable-third.ensures, c.select_unpredictable-second.ensures, c.select_unpredictable-first.ensures, c.max-most.ensures, picked, lifted)
     (flattened a.left a.down a.self.i a.self.j)

@@ -5,6 +5,3 @@ use Rattle.vec2d.proofs.Line.meet.Goals as goal
 pub returns-then-is_line : goal.returns-then-is_line
 returns-then-is_line c =
     rw (c.met.ensures, c.crossing.ensures) (met_said _ _ (rw (← c.is_line-2.ensures, ← c.is_line.ensures) c.if-is_line.true))
-
-pub returns : goal.returns
-returns c = rw (← c.is_line-2.ensures, ← c.is_line.ensures, c.if-is_line.false)

@@ -6,12 +6,6 @@ use Rattle.vec2d.specs.Rounding.{quantized_of}
 use Rattle.vec2d.proofs.Accepted.{first_upto, second_upto, first_whole, second_whole}
 use Rattle.vec2d.proofs.Vec2d.quantize.Goals as goal
 
-pub magnitude-x2-requires : goal.magnitude-x2-requires
-magnitude-x2-requires c = c.requires.y.number
-
-pub magnitude-requires : goal.magnitude-requires
-magnitude-requires c = c.requires.x.number
-
 pub split-first-requires : goal.split-first-requires
 split-first-requires c =
     rw (c.magnitude.ensures, c.magnitude-x2.ensures) (upto_le (2 ^ 26 - 1) (2 ^ 32 - 1) _ (lit≤ tt) (first_upto c.args.self c.requires))

@@ -7,10 +7,10 @@ use Rattle.vec2d.proofs.Trusting.{trusted}
 use Rattle.vec2d.proofs.Vec2d.rounded.Goals as goal
 
 pub nearest-requires : goal.nearest-requires
-nearest-requires c = accepted _ (sym c.verdict-verdict.ensures ∙ c.in-Fine.is)
+nearest-requires c = accepted _ (sym c.verdict.ensures ∙ c.in_ok-verdict.was)
 
-pub returns-in-Fine-clause-shown : goal.returns-in-Fine-clause-shown
-returns-in-Fine-clause-shown c =
+pub returns-clause-shown : goal.returns-clause-shown
+returns-clause-shown c =
     let p = c.new-at.result in
-    let fine = sym c.verdict-verdict.ensures ∙ c.in-Fine.is in
+    let fine = sym c.verdict.ensures ∙ c.in_ok-verdict.was in
     rw c.new-at.ensures at (subst (λ (f : Found). Trusted p f) (sym c.nearest.ensures) (trusted p fine))

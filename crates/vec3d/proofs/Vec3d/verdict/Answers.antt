@@ -3,12 +3,6 @@ use mathlib.Core.Path.{sym, ◌∙◌}
 use Rattle.vec3d.proofs.OnePass.{on_sphere}
 use Rattle.vec3d.proofs.Vec3d.verdict.Goals as goal
 
-pub returns-then-bad_number : goal.returns-then-bad_number
-returns-then-bad_number c = rw (sym c.bad_number.ensures ∙ c.if-bad_number.true)
-
-pub returns-then-off_sphere : goal.returns-then-off_sphere
-returns-then-off_sphere c = rw (sym c.bad_number.ensures ∙ c.if-bad_number.false, sym c.off_sphere.ensures ∙ c.if-off_sphere.true)
-
 pub returns : goal.returns
 returns c =
     let on = sym c.off_sphere.ensures ∙ c.if-off_sphere.false in

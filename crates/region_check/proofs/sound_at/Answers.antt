@@ -1,7 +1,0 @@
--- `sound_at` meets its contract. Assumes nothing.
-use Rattle.region_check.specs.Sound.{sound_at}
-use Rattle.region_check.proofs.sound_at.Goals as goal
-
-pub returns : goal.returns
-unfolding sound_at
-returns c = cc
