@@ -43,7 +43,9 @@ pub fn corners(
     Ok(())
 }
 
-// Stores the count, and face and mark of each point.
+// Stores the count, and face and mark of each point. This and `give` are compiled into the entries: called, they would have the points written to
+// memory and read back, and a hexagon's boundary would take half as long again.
+#[inline(always)]
 fn put_marks(marks: &mut [u32; 25], count: u32, points: [BoundaryPoint; 12])
     ensures { marks.new ≡ marks_of (count ∷ points_values points) }
 {
@@ -65,6 +67,7 @@ fn put_points(out: &mut [f64; 24], points: [BoundaryPoint; 12])
 }
 
 // Gives a boundary out.
+#[inline(always)]
 fn give(
     border: Result<Boundary, Refusal>,
     marks: &mut [u32],
