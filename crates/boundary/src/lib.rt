@@ -4,7 +4,6 @@
 ghost use Rattle.std.specs.Prelude.{◌≡◌, false, not, ◌||◌, ◌+◌, ◌≤◌, ◌<◌, eqb, pos, Ok};
 ghost use Rattle.std.specs.Float.{binary64};
 ghost use Rattle.std.specs.Float.Ieee.{of_int};
-ghost use Rattle.reply.specs.declared.Refusal.TheVariants.{NotAdjacent};
 ghost use Rattle.level.specs.Levels.{bad_grid, raised_of, grid_of, Sound};
 ghost use Rattle.coordijk.specs.Coordinates.{Taken, coord};
 ghost use Rattle.coordijk.specs.Maps.{map_of};
@@ -13,8 +12,7 @@ ghost use Rattle.vec2d.specs.Points.{point};
 ghost use Rattle.vec2d.specs.Centre.{centre_of};
 ghost use Rattle.vec2d.specs.Closeness.{close};
 ghost use Rattle.faceijk.specs.Places.{place, coord_of, Okay};
-ghost use Rattle.faceijk.specs.Faces.{dir_to, edge_number};
-ghost use Rattle.faceijk.specs.Entries.{Numbered};
+ghost use Rattle.faceijk.specs.Faces.{dir_to};
 ghost use Rattle.faceijk.specs.Crossing.{landed};
 ghost use Rattle.faceijk.specs.declared.Overage.{Overage};
 ghost use Rattle.boundary.specs.Corners.{class_iii, through_apertures, offset_of, corner_of, six_corners, said_corners, corners_reply};
@@ -24,7 +22,7 @@ ghost use Rattle.boundary.specs.Boundaries.{points_to, verdict_to, turns_for, sa
 ghost use Rattle.boundary.specs.AsWalked.{digit_of, cell_verdict, range_verdict, Upto, before_from, boundary_of, within_of, Solid, Fit, Deep};
 
 use coordijk::CoordIJK;
-use faceijk::{Edge, Landed, Overage, Place};
+use faceijk::{Landed, Overage, Place};
 use level::{CellLevel, Grid, GridLevel};
 use reply::Refusal;
 use vec2d::{Line, Vec2d};
@@ -220,14 +218,12 @@ pub fn corners_of(centre: Place, level: CellLevel) -> Result<Corners, Refusal>
     })
 }
 
-// The edge of a face that leads to another.
-fn edge_to(from: u32, to: u32) -> Result<Edge, Refusal>
+// The direction number from one face to another.
+fn edge_to(from: u32, to: u32) -> u32
     requires { from < 20 }
-    ensures { Numbered NotAdjacent (dir_to «from» to) result }
+    ensures { result ≡ dir_to «from» to }
 {
-    faceijk::direction_to(from, to)
-        .edge()
-        .ok_or(Refusal::NotAdjacent)
+    faceijk::direction_to(from, to).number()
 }
 
 fn is_face_edge(overage: Overage) -> bool
@@ -236,19 +232,21 @@ fn is_face_edge(overage: Overage) -> bool
     matches!(overage, Overage::FaceEdge)
 }
 
-// An edge of a face, on the substrate grid.
-fn edge_line(edge: Edge, m: u32) -> Line
-    ensures { result ≡ edge_line (edge_number edge) (of_int binary64 (pos m)) }
+// The edge of a face in a direction, on the substrate grid.
+fn edge_line(edge: u32, m: u32) -> Line
+    ensures { result ≡ edge_line edge (of_int binary64 (pos m)) }
 {
     let max = f64::from(m);
     let v0 = Vec2d::new(3.0 * max, 0.0);
     let v1 = Vec2d::new(-1.5 * max, 3.0 * Vec2d::SIN60 * max);
     let v2 = Vec2d::new(-1.5 * max, -3.0 * Vec2d::SIN60 * max);
-    match edge {
-        Edge::IJ => Line { from: v0, to: v1 },
-        Edge::KI => Line { from: v2, to: v0 },
-        Edge::JK => Line { from: v1, to: v2 },
+    if edge == 1 {
+        return Line { from: v0, to: v1 };
     }
+    if edge == 2 {
+        return Line { from: v2, to: v0 };
+    }
+    Line { from: v1, to: v2 }
 }
 
 // Where the line from a to b meets an edge of a face.
@@ -257,10 +255,13 @@ fn cross_at(
     face: u32,
     a: Vec2d,
     b: Vec2d,
-    edge: Edge,
+    edge: u32,
 ) -> Result<Option<BoundaryPoint>, Refusal>
-    ensures { result ≡ cross_at m face a b (edge_number edge) }
+    ensures { result ≡ cross_at m face a b edge }
 {
+    if (edge < 1) | (3 < edge) {
+        return Err(Refusal::NotAdjacent);
+    }
     let line = Line { from: a, to: b };
     // A point that is met lies on the face that it is projected with.
     let met = line.crossing(edge_line(edge, m)).met()?;
@@ -283,7 +284,7 @@ impl Cell {
         let a = Vec2d::from_ijk(self.corner((v + 5) % 6));
         let b = Vec2d::from_ijk(self.corner(v));
         let home = self.centre.face;
-        let edge = edge_to(home, away)?;
+        let edge = edge_to(home, away);
         // No point is needed where it equals one of the two corners.
         let met = cross_at(self.m, home, a, b, edge)?;
         Ok(met.filter(|p| !p.is_close(a, b)))
@@ -322,7 +323,10 @@ impl Cell {
         requires { Okay now × (self.grid ≡ substrate_of self.level) × Sound self.grid × (a ≡ centre_of (coord_of last)) }
         ensures { result ≡ pentagon_crossing self last now }
     {
-        let edge = edge_to(now.face, last.face)?;
+        let edge = edge_to(now.face, last.face);
+        if (edge < 1) | (3 < edge) {
+            return Err(Refusal::NotAdjacent);
+        }
         let back = faceijk::back_edge(now.face, edge);
         let over = now.over(edge, self.grid);
         let b = Vec2d::from_ijk(over.coord());

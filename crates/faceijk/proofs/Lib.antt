@@ -1,6 +1,5 @@
 -- Laws of `faceijk`: places: the tables, steps, the pentagon turn, demand 3, the starred places, unique answers.
 pub mod Faces
-pub mod Numbers
 pub mod Words
 pub mod Stepping
 pub mod Edges

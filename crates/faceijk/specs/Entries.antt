@@ -1,8 +1,7 @@
 -- The entries on places, in the paper's numbers: what each answer says, and what each entry owes.
-use Rattle.faceijk.specs.declared.Edge.{Edge}
 use Rattle.faceijk.specs.declared.Direction.{Direction}
 use Rattle.reply.specs.declared.Refusal.{Refusal}
-use Rattle.std.specs.Prelude.{Bool, true, ◌≡◌, ◌||◌, List, [], ◌∷◌, ◌++◌, ℕ, ltb, Option, MatchOption, Result, MatchResult}
+use Rattle.std.specs.Prelude.{Bool, ◌||◌, List, [], ◌∷◌, ◌++◌, ℕ, ltb, Result}
 use Rattle.reply.specs.Choice.{pick}
 use Rattle.reply.specs.declared.Refusal.TheVariants.{BadFace}
 use Rattle.reply.specs.Replies.{Reply, when, first, reply, said}
@@ -17,7 +16,7 @@ use Rattle.faceijk.specs.declared.Overage.TheVariants.{None, FaceEdge, NewFace}
 use Rattle.faceijk.specs.declared.Landed.{Landed}
 use Rattle.faceijk.specs.declared.Rested.{Rested}
 use Rattle.faceijk.specs.Places.{place, coord_of, place_values, QAt, bad_face, place_verdict, on_grid_verdict, over_edge_verdict}
-use Rattle.faceijk.specs.Faces.{dir_to, direction_number, edge_number}
+use Rattle.faceijk.specs.Faces.{dir_to, direction_number}
 use Rattle.faceijk.specs.Steps.{step_of}
 use Rattle.faceijk.specs.Crossing.{crossing_of, settle_from}
 
@@ -38,14 +37,6 @@ turn_reply p clockwise = reply 4 (place_verdict p) (place_values (place p.face (
 -- BadRange: edge not 1..3
 abbrev pub bad_edge : ℕ → Bool
 bad_edge e = ltb e 1 || ltb 3 e
-
--- the edge with a number, or the refusal of a number that no edge has
-abbrev pub Numbered : Refusal → ℕ → Result Edge Refusal → Type 0
-Numbered why n r = MatchResult r (λ e. edge_number e ≡ n) (λ w. (w ≡ why) × (bad_edge n ≡ true))
-
--- the edge in a direction, if that has one
-abbrev pub Towards : ℕ → Option Edge → Type 0
-Towards n o = MatchOption o (bad_edge n ≡ true) (λ e. edge_number e ≡ n)
 
 abbrev pub step_reply : Place → ℕ → Bool → ℕ → Reply
 step_reply p l substrate e = reply 4 (over_edge_verdict p l (bad_edge e)) (place_values (step_of p e (grid_of l substrate).unit))

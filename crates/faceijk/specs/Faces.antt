@@ -1,8 +1,6 @@
 -- The neighbour faces of document 01, those listed for ADJACENT_FACE_DIR, and the direction from face to face.
 use Rattle.std.specs.Prelude.{Bool, List, [], ◌∷◌, ℕ, ◌+◌, ◌-◌, ◌*◌, get_or, eqb}
 use Rattle.reply.specs.Choice.{pick}
-use Rattle.faceijk.specs.declared.Edge.{Edge}
-use Rattle.faceijk.specs.declared.Edge.TheVariants.{IJ, KI, JK}
 use Rattle.faceijk.specs.declared.Direction.{Direction}
 use Rattle.faceijk.specs.declared.Direction.TheVariants.{Itself, OverIJ, OverKI, OverJK, Elsewhere}
 
@@ -13,12 +11,6 @@ neighbours =
     10 ∷ 14 ∷ 0 ∷ 11 ∷ 10 ∷ 1 ∷ 12 ∷ 11 ∷ 2 ∷ 13 ∷ 12 ∷ 3 ∷ 14 ∷ 13 ∷ 4 ∷
     5 ∷ 6 ∷ 15 ∷ 6 ∷ 7 ∷ 16 ∷ 7 ∷ 8 ∷ 17 ∷ 8 ∷ 9 ∷ 18 ∷ 9 ∷ 5 ∷ 19 ∷
     16 ∷ 19 ∷ 10 ∷ 17 ∷ 15 ∷ 11 ∷ 18 ∷ 16 ∷ 12 ∷ 19 ∷ 17 ∷ 13 ∷ 15 ∷ 18 ∷ 14 ∷ []
-
--- the edges' numbers
-abbrev pub edge_number : Edge → ℕ
-edge_number IJ = 1
-edge_number KI = 2
-edge_number JK = 3
 
 -- the face over edge e of face f: 1 is IJ, 2 is KI, 3 is JK
 abbrev pub face_over : ℕ → ℕ → ℕ

@@ -2,14 +2,13 @@
 #![tactic(auto)]
 
 ghost use Rattle.std.specs.Prelude.{◌≡◌, ◌<◌, ◌≤◌};
-ghost use Rattle.reply.specs.declared.Refusal.TheVariants.{BadRange};
 ghost use Rattle.level.specs.Levels.{Sound, grid_of};
 ghost use Rattle.coordijk.specs.Coordinates.{reduced};
 ghost use Rattle.faceijk.specs.Places.{place, coord_of, same_place, sum_at, QAt, Okay, Ready, place_verdict, edge_verdict, over_edge_verdict, on_grid_of};
-ghost use Rattle.faceijk.specs.Faces.{face_over, word_over, dir_to, direction_number, edge_number};
+ghost use Rattle.faceijk.specs.Faces.{face_over, word_over, dir_to, direction_number};
 ghost use Rattle.faceijk.specs.Steps.{polar, step_of};
 ghost use Rattle.faceijk.specs.Crossing.{edge_out, about_corner, start_out, step_out, landed, on_edge, crossing_of, settle_from};
-ghost use Rattle.faceijk.specs.Entries.{reduce_of, said_moved, turn_map, turn_reply, step_reply, overage_number, said_crossed, cross_reply, said_settled, settle_reply, said_directed, direction_reply, Numbered, Towards};
+ghost use Rattle.faceijk.specs.Entries.{reduce_of, said_moved, turn_map, turn_reply, step_reply, overage_number, said_crossed, cross_reply, said_settled, settle_reply, said_directed, direction_reply};
 
 use coordijk::{CoordIJK, GridMap};
 use level::{Grid, GridLevel};
@@ -44,14 +43,6 @@ pub struct Landed {
 pub struct Rested {
     pub place: Place,
     pub steps: u64,
-}
-
-// An edge of a face, with the paper's number.
-#[derive(Clone, Copy, Debug, PartialEq, Eq)]
-pub enum Edge {
-    IJ = 1,
-    KI = 2,
-    JK = 3,
 }
 
 // Where another face lies, with the paper's direction number.
@@ -94,23 +85,31 @@ fn reduced_at(face: u32, i: u32, j: u32, k: u32) -> Place
 
 // The faces over an edge, five bits a face from the lowest on: those of faces 0..9, or those of 10..19. Words and not a table, since a
 // table of sixty would be laid out in memory anew at each reading.
-fn faces_over(edge: Edge, low: bool) -> u64
-    ensures { result ≡ word_over (edge_number edge) low }
+fn faces_over(edge: u32, low: bool) -> u64
+    ensures { result ≡ word_over edge low }
 {
-    match (edge, low) {
-        (Edge::IJ, true) => 507299327181828,
-        (Edge::IJ, false) => 549293577739461,
-        (Edge::KI, true) => 470980141124673,
-        (Edge::KI, false) => 652576900292838,
-        (Edge::JK, true) => 144105826163909,
-        (Edge::JK, false) => 507299344500239,
+    if edge == 1 {
+        if low {
+            return 507299327181828;
+        }
+        return 549293577739461;
     }
+    if edge == 2 {
+        if low {
+            return 470980141124673;
+        }
+        return 652576900292838;
+    }
+    if low {
+        return 144105826163909;
+    }
+    507299344500239
 }
 
 // The place in the word is the face's remainder by ten, without the multiplication that settling would wait for at each step.
-fn face_over(face: u32, edge: Edge) -> u32
-    requires { face < 20 }
-    ensures { result ≡ face_over face (edge_number edge) }
+fn face_over(face: u32, edge: u32) -> u32
+    requires { (face < 20) × (1 ≤ edge) × (edge ≤ 3) }
+    ensures { result ≡ face_over face edge }
 {
     let low = face < 10;
     let at = if low { face } else { face - 10 };
@@ -131,13 +130,13 @@ pub fn direction_to(from: u32, to: u32) -> Direction
     if from == to {
         return Direction::Itself;
     }
-    if face_over(from, Edge::IJ) == to {
+    if face_over(from, 1) == to {
         return Direction::OverIJ;
     }
-    if face_over(from, Edge::KI) == to {
+    if face_over(from, 2) == to {
         return Direction::OverKI;
     }
-    if face_over(from, Edge::JK) == to {
+    if face_over(from, 3) == to {
         return Direction::OverJK;
     }
     Direction::Elsewhere
@@ -145,14 +144,14 @@ pub fn direction_to(from: u32, to: u32) -> Direction
 
 // The edge that leads back from the face over an edge, without a search: among the faces about a pole IJ and KI lead back over each other,
 // any other edge over itself. Public for boundaries, as `Place::over`.
-pub fn back_edge(face: u32, edge: Edge) -> Edge
-    requires { face < 20 }
-    ensures { edge_number result ≡ dir_to (face_over face (edge_number edge)) face }
+pub fn back_edge(face: u32, edge: u32) -> u32
+    requires { (face < 20) × (1 ≤ edge) × (edge ≤ 3) }
+    ensures { result ≡ dir_to (face_over face edge) face }
 {
-    match (edge, is_polar(face)) {
-        (Edge::IJ, true) => Edge::KI,
-        (Edge::KI, true) => Edge::IJ,
-        _ => edge,
+    if (edge < 3) & is_polar(face) {
+        3 - edge
+    } else {
+        edge
     }
 }
 
@@ -166,21 +165,6 @@ pub fn face_direction(from: u32, to: u32) -> Result<Direction, Refusal>
     Ok(direction_to(from, to))
 }
 
-impl TryFrom<u32> for Edge {
-    type Error = Refusal;
-
-    ghost try_from_gives = { Numbered BadRange };
-
-    fn try_from(number: u32) -> Result<Self, Refusal> {
-        match number {
-            1 => Ok(Edge::IJ),
-            2 => Ok(Edge::KI),
-            3 => Ok(Edge::JK),
-            _ => Err(Refusal::BadRange),
-        }
-    }
-}
-
 impl Overage {
     pub fn number(self) -> u32
         ensures { result ≡ overage_number self }
@@ -190,18 +174,6 @@ impl Overage {
 }
 
 impl Direction {
-    // The edge that lies in the direction; there is none to the face itself, nor to a face elsewhere.
-    pub fn edge(self) -> Option<Edge>
-        ensures { Towards (direction_number self) result }
-    {
-        match self {
-            Direction::OverIJ => Some(Edge::IJ),
-            Direction::OverKI => Some(Edge::KI),
-            Direction::OverJK => Some(Edge::JK),
-            Direction::Itself | Direction::Elsewhere => None,
-        }
-    }
-
     pub fn number(self) -> u32
         ensures { result ≡ direction_number self }
     {
@@ -288,31 +260,36 @@ impl Place {
     }
 
     // The step over an edge: the table's turns and translations, as sums. Public for boundaries and names, which have tested place and grid.
-    pub fn over(self, edge: Edge, grid: Grid) -> Place
-        requires { Ready self × (self.face < 20) × Sound grid }
-        ensures { result ≡ step_of self (edge_number edge) grid.unit }
+    pub fn over(self, edge: u32, grid: Grid) -> Place
+        requires { Ready self × (self.face < 20) × (1 ≤ edge) × (edge ≤ 3) × Sound grid }
+        ensures { result ≡ step_of self edge grid.unit }
     {
         let face = face_over(self.face, edge);
         let m = grid.limit;
         let a = self.i + self.j;
         let b = self.j + self.k;
         let c = self.k + self.i;
-        match (edge, is_polar(self.face)) {
-            (Edge::IJ, true) => reduced_at(face, c + m, a, b + m),
-            (Edge::IJ, false) => reduced_at(face, b + m, c + m, a),
-            (Edge::KI, true) => reduced_at(face, a + m, b + m, c),
-            (Edge::KI, false) => reduced_at(face, b + m, c, a + m),
-            (Edge::JK, _) => reduced_at(face, b, c + m, a + m),
+        if edge == 3 {
+            return reduced_at(face, b, c + m, a + m);
         }
+        if is_polar(self.face) {
+            if edge == 1 {
+                return reduced_at(face, c + m, a, b + m);
+            }
+            return reduced_at(face, a + m, b + m, c);
+        }
+        if edge == 1 {
+            return reduced_at(face, b + m, c + m, a);
+        }
+        reduced_at(face, b + m, c, a + m)
     }
 
-    // The bare step over an edge named by its number. A number that is none is told in its turn, after face and level.
+    // The bare step over a named edge: 1 is IJ, 2 is KI, 3 is JK.
     pub fn step(self, level: GridLevel, substrate: bool, edge: u32) -> Result<Place, Refusal>
         ensures { said_moved result ≡ step_reply self level.0 substrate edge }
     {
-        let named = Edge::try_from(edge);
-        let grid = self.on_grid(level, substrate, named.is_err())?;
-        Ok(self.over(named?, grid))
+        let grid = self.on_grid(level, substrate, (edge < 1) | (3 < edge))?;
+        Ok(self.over(edge, grid))
     }
 
     // s of the paper, which crossing compares with the limit.
@@ -323,13 +300,13 @@ impl Place {
     }
 
     // The edge that crossing steps over.
-    fn edge_out(self) -> Edge
-        ensures { edge_number result ≡ edge_out self }
+    fn edge_out(self) -> u32
+        ensures { result ≡ edge_out self }
     {
         if 0 < self.k {
-            if 0 < self.j { Edge::JK } else { Edge::KI }
+            if 0 < self.j { 3 } else { 2 }
         } else {
-            Edge::IJ
+            1
         }
     }
 
@@ -345,11 +322,11 @@ impl Place {
     }
 
     // Where the step starts: after the pentagon turn, if that is asked and the edge is KI.
-    fn start(self, turn: bool, edge: Edge, grid: Grid) -> Place
+    fn start(self, turn: bool, edge: u32, grid: Grid) -> Place
         requires { Okay self × Sound grid }
-        ensures { result ≡ start_out turn (edge_number edge) grid self }
+        ensures { result ≡ start_out turn edge grid self }
     {
-        if turn & (edge == Edge::KI) {
+        if turn & (edge == 2) {
             return self.about_corner(grid.limit);
         }
         self

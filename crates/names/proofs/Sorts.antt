@@ -32,6 +32,16 @@ edge_before ij = ki
 edge_before ki = jk
 edge_before jk = ij
 
+-- the edge over which the next name lies is one of the three
+pub edge_range : (p : Place) → (1 ≤ edge_at p) × (edge_at p ≤ 3)
+edge_range p = go (eqb p.k 0) (eqb p.i 0) (eqb p.j 0)
+  where
+    go : (a b c : Bool) → (1 ≤ pick a (pick b 3 1) (pick c 2 3)) × (pick a (pick b 3 1) (pick c 2 3) ≤ 3)
+    go true true c = omega arith
+    go true false c = omega arith
+    go false b true = omega arith
+    go false b false = omega arith
+
 -- the edge before an edge is another
 pub before_other : {e : ℕ} → Edge e → before e ≡ e → ⊥
 before_other ij q = omega arith

@@ -5,12 +5,11 @@ ghost use Rattle.std.specs.Prelude.{◌≡◌, true};
 ghost use Rattle.level.specs.Levels.{Sound, grid_of};
 ghost use Rattle.coordijk.specs.Coordinates.{not_reduced};
 ghost use Rattle.faceijk.specs.Places.{coord_of, on_grid_of};
-ghost use Rattle.faceijk.specs.Faces.{edge_number};
 ghost use Rattle.faceijk.specs.Entries.{said_moved};
 ghost use Rattle.names.specs.Row.{at_limit, edge_at, next_name, others, lower, first_of, same_of};
 ghost use Rattle.names.specs.Entries.{Inside, out_of, inside_verdict, names_verdict, first_reply, said_same, same_reply};
 
-use faceijk::{Edge, Place};
+use faceijk::Place;
 use level::{Grid, GridLevel};
 use reply::Refusal;
 use std::cmp;
@@ -23,13 +22,13 @@ fn at_limit(p: Place, grid: Grid) -> bool
 }
 
 // The edge over which the next name lies: each has its first corner and not its last, so that at a corner the names go round it.
-fn edge_at(p: Place) -> Edge
-    ensures { edge_number result ≡ edge_at p }
+fn edge_at(p: Place) -> u32
+    ensures { result ≡ edge_at p }
 {
     if p.k == 0 {
-        if p.i == 0 { Edge::JK } else { Edge::IJ }
+        if p.i == 0 { 3 } else { 1 }
     } else {
-        if p.j == 0 { Edge::KI } else { Edge::JK }
+        if p.j == 0 { 2 } else { 3 }
     }
 }
 

@@ -1,15 +1,18 @@
 -- `edge_line` meets its contract: each edge has its ends. Assumes nothing.
+use borrow.Author.Tests.{eq-eqb, ne_eqb}
 use Rattle.boundary.specs.CrossingPoints.{edge_line}
 use Rattle.boundary.proofs.edge_line.Goals as goal
 
-pub returns-in-IJ : goal.returns-in-IJ
+pub returns-then-edge-eq1 : goal.returns-then-edge-eq1
 unfolding edge_line
-returns-in-IJ c = rw (c.in-IJ.is, c.new-v1.ensures, c.new-v0.ensures, c.from-max.ensures)
+returns-then-edge-eq1 c = rw (eq-eqb _ 1 c.if-edge-eq1.true, c.new-v1.ensures, c.new-v0.ensures, c.from-max.ensures)
 
-pub returns-in-KI : goal.returns-in-KI
+pub returns-then-edge-eq2 : goal.returns-then-edge-eq2
 unfolding edge_line
-returns-in-KI c = rw (c.in-KI.is, c.new-v2.ensures, c.new-v0.ensures, c.from-max.ensures)
+returns-then-edge-eq2 c =
+    rw (ne_eqb _ 1 c.if-edge-eq1.false, eq-eqb _ 2 c.if-edge-eq2.true, c.new-v2.ensures, c.new-v0.ensures, c.from-max.ensures)
 
-pub returns-in-JK : goal.returns-in-JK
+pub returns : goal.returns
 unfolding edge_line
-returns-in-JK c = rw (c.in-JK.is, c.new-v2.ensures, c.new-v1.ensures, c.from-max.ensures)
+returns c =
+    rw (ne_eqb _ 1 c.if-edge-eq1.false, ne_eqb _ 2 c.if-edge-eq2.false, c.new-v2.ensures, c.new-v1.ensures, c.from-max.ensures)

@@ -1,18 +1,15 @@
 -- `back_edge` meets its contract: the table of neighbours leads back so. Assumes nothing.
-use Rattle.faceijk.proofs.Numbers.{leads_back}
+use mathlib.Core.Path.{◌≡◌}
+use Rattle.faceijk.specs.Faces.{face_over, dir_to}
+use Rattle.faceijk.proofs.Faces.{back_over, mate_over}
 use Rattle.faceijk.proofs.back_edge.Goals as goal
 
-pub returns-in-IJ-true : goal.returns-in-IJ-true
-returns-in-IJ-true c = rw (leads_back c.args.face c.args.edge c.requires, c.in-IJ-true.is-0, ← c.in-IJ-true.ensures)
+pub returns-then-edge-is_polar : goal.returns-then-edge-is_polar
+returns-then-edge-is_polar c =
+    let back : dir_to (face_over c.args.face c.args.edge) c.args.face ≡ back_over c.args.face c.args.edge = let pre = c.requires in (mate_over c.args.edge pre.1 pre.2 c.args.face pre.0).back in
+    rw (back, ← c.is_polar.ensures, c.if-edge-is_polar.true)
 
-pub returns-in-KI-true : goal.returns-in-KI-true
-returns-in-KI-true c = rw (leads_back c.args.face c.args.edge c.requires, c.in-KI-true.is-0, ← c.in-KI-true.ensures)
-
-pub returns-in_default : goal.returns-in_default
-returns-in_default c = rw (leads_back c.args.face c.args.edge c.requires, c.in_default.is-0, ← c.in_default.ensures)
-
-pub returns-in_default-2 : goal.returns-in_default-2
-returns-in_default-2 c = rw (leads_back c.args.face c.args.edge c.requires, c.in_default.is-0, ← c.in_default.ensures)
-
-pub returns-in_default-3 : goal.returns-in_default-3
-returns-in_default-3 c = rw (leads_back c.args.face c.args.edge c.requires, c.in_default.is-0)
+pub returns-else-edge-is_polar : goal.returns-else-edge-is_polar
+returns-else-edge-is_polar c =
+    let back : dir_to (face_over c.args.face c.args.edge) c.args.face ≡ back_over c.args.face c.args.edge = let pre = c.requires in (mate_over c.args.edge pre.1 pre.2 c.args.face pre.0).back in
+    rw (back, ← c.is_polar.ensures, c.if-edge-is_polar.false)
