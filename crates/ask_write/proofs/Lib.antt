@@ -3,4 +3,3 @@ pub mod Lengths
 pub mod Reading
 pub mod Checked
 pub mod Laws
-pub mod Room

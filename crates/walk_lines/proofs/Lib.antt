@@ -1,3 +1,2 @@
 -- Laws of `walk_lines`: how long the lines get, and where they stand.
 pub mod Lengths
-pub mod Room

@@ -2,7 +2,7 @@
 use borrow.Author.Tests.{eq-eqb, ne_eqb}
 use native.Mathlib.Omega.{arith}
 use Rattle.ask_write.specs.Texts.{answer_text}
-use Rattle.ask_write.proofs.Room.{in_room}
+use Rattle.text.proofs.Room.{in_room}
 use Rattle.ask_write.proofs.write_answer.Goals as goal
 
 pub returns-then-number-eq0 : goal.returns-then-number-eq0

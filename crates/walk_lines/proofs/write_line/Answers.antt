@@ -2,7 +2,7 @@
 use borrow.Author.Rules.{rules}
 use Rattle.walk_lines.specs.declared.Line.{Line}
 use Rattle.walk_lines.proofs.Lengths.{Fits, longest}
-use Rattle.walk_lines.proofs.Room.{in_room}
+use Rattle.text.proofs.Room.{in_room}
 use Rattle.walk_lines.proofs.write_line.Goals as goal
 
 pub returns-in-From : goal.returns-in-From
