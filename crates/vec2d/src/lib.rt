@@ -77,13 +77,13 @@ impl Steps {
         Steps { i, j }
     }
 
-    // One of two, field by field: no branch is taken, so none is guessed wrong.
+    // One of two, as sums of tests: no branch is taken, so none is guessed wrong.
     fn either(yes: bool, a: Steps, b: Steps) -> Steps
         ensures { result ≡ pick yes a b }
     {
         Steps {
-            i: hint::select_unpredictable(yes, a.i, b.i),
-            j: hint::select_unpredictable(yes, a.j, b.j),
+            i: (yes & a.i) | (!yes & b.i),
+            j: (yes & a.j) | (!yes & b.j),
         }
     }
 }
