@@ -3,6 +3,7 @@ pub mod Lent
 pub mod Chunk
 pub mod Writing
 pub mod Rows
+pub mod Framed
 pub mod Both
 pub mod Order
 pub mod Unique

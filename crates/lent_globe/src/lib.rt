@@ -23,7 +23,7 @@ pub fn root(x: f64, out: &mut [f64]) -> Result<(), Refusal>
     ensures { Gives 1 (root_reply x) (bits_of out.old) (bits_of out.new) (verdict_number result) }
 {
     let values = out.first_chunk_mut::<1>().ok_or(Refusal::BadRows)?;
-    *values = [root::square_root(x)?];
+    lent::put(values, 0, &[root::square_root(x)?]);
     Ok(())
 }
 
@@ -42,7 +42,7 @@ pub fn sphere(
         return Err(lent_places::frame_or_rows(frame));
     };
     let v = globe::sphere_point(frame, face, GridLevel(level), Vec2d::new(x, y))?;
-    *values = [v.x, v.y, v.z];
+    lent::put(values, 0, &[v.x, v.y, v.z]);
     Ok(())
 }
 

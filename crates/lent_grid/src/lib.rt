@@ -33,7 +33,7 @@ pub fn raise(level: u32, out: &mut [u32]) -> Result<(), Refusal>
 {
     let values = out.first_chunk_mut::<1>().ok_or(Refusal::BadRows)?;
     let g = CellLevel(level).raise()?;
-    *values = [g.0];
+    lent::put(values, 0, &[g.0]);
     Ok(())
 }
 
@@ -43,7 +43,7 @@ pub fn grid(level: u32, substrate: bool, out: &mut [u32]) -> Result<(), Refusal>
 {
     let values = out.first_chunk_mut::<3>().ok_or(Refusal::BadRows)?;
     let g = GridLevel(level).grid(substrate)?;
-    *values = [g.unit, g.limit, u32::from(g.substrate)];
+    lent::put(values, 0, &[g.unit, g.limit, u32::from(g.substrate)]);
     Ok(())
 }
 
@@ -53,7 +53,7 @@ pub fn reduce(i: u32, j: u32, k: u32, out: &mut [u32]) -> Result<(), Refusal>
 {
     let values = out.first_chunk_mut::<3>().ok_or(Refusal::BadRows)?;
     let c = CoordIJK::new(i, j, k).reduce();
-    *values = [c.i, c.j, c.k];
+    lent::put(values, 0, &[c.i, c.j, c.k]);
     Ok(())
 }
 
@@ -79,7 +79,7 @@ pub fn map(map: u32, i: u32, j: u32, k: u32, out: &mut [u32]) -> Result<(), Refu
     let values = out.first_chunk_mut::<3>().ok_or(Refusal::BadRows)?;
     let numbered = map_at(map)?;
     let c = CoordIJK::new(i, j, k).map(numbered)?;
-    *values = [c.i, c.j, c.k];
+    lent::put(values, 0, &[c.i, c.j, c.k]);
     Ok(())
 }
 
@@ -92,8 +92,8 @@ pub fn round(x: f64, y: f64, out: &mut [u32], left: &mut [f64]) -> Result<(), Re
     let found = Vec2d::new(x, y).to_ijk()?;
     let c = found.hexagon;
     let l = found.left;
-    *hexagon = [c.i, c.j, c.k];
-    *leftovers = [l.r1, l.r2];
+    lent::put(hexagon, 0, &[c.i, c.j, c.k]);
+    lent::put(leftovers, 0, &[l.r1, l.r2]);
     Ok(())
 }
 
@@ -102,7 +102,7 @@ pub fn margin(r1: f64, r2: f64, out: &mut [f64]) -> Result<(), Refusal>
     ensures { Gives 1 (margin_reply (leftovers r1 r2)) (bits_of out.old) (bits_of out.new) (verdict_number result) }
 {
     let values = out.first_chunk_mut::<1>().ok_or(Refusal::BadRows)?;
-    *values = [margin::margin(Leftovers { r1, r2 })?];
+    lent::put(values, 0, &[margin::margin(Leftovers { r1, r2 })?]);
     Ok(())
 }
 
@@ -112,7 +112,7 @@ pub fn centre(i: u32, j: u32, k: u32, out: &mut [f64]) -> Result<(), Refusal>
 {
     let values = out.first_chunk_mut::<2>().ok_or(Refusal::BadRows)?;
     let v = Vec2d::centre(CoordIJK::new(i, j, k))?;
-    *values = [v.x, v.y];
+    lent::put(values, 0, &[v.x, v.y]);
     Ok(())
 }
 
@@ -148,7 +148,7 @@ pub fn meet(lines: &[f64], out: &mut [f64]) -> Result<(), Refusal>
 {
     let values = out.first_chunk_mut::<2>().ok_or(Refusal::BadRows)?;
     let v = met(lines)?;
-    *values = [v.x, v.y];
+    lent::put(values, 0, &[v.x, v.y]);
     Ok(())
 }
 
@@ -158,7 +158,7 @@ pub fn alike(x: f64, y: f64, other_x: f64, other_y: f64, out: &mut [u32]) -> Res
 {
     let values = out.first_chunk_mut::<1>().ok_or(Refusal::BadRows)?;
     let alike = Vec2d::new(x, y).alike(Vec2d::new(other_x, other_y))?;
-    *values = [u32::from(alike)];
+    lent::put(values, 0, &[u32::from(alike)]);
     Ok(())
 }
 
@@ -168,7 +168,7 @@ pub fn direction(from: u32, to: u32, out: &mut [u32]) -> Result<(), Refusal>
 {
     let values = out.first_chunk_mut::<1>().ok_or(Refusal::BadRows)?;
     let d = faceijk::face_direction(from, to)?;
-    *values = [d.number()];
+    lent::put(values, 0, &[d.number()]);
     Ok(())
 }
 
@@ -185,7 +185,7 @@ pub fn turn(
 {
     let values = out.first_chunk_mut::<4>().ok_or(Refusal::BadRows)?;
     let p = Place::new(face, i, j, k).turn(clockwise)?;
-    *values = lent::numbers(p);
+    lent::put(values, 0, &lent::numbers(p));
     Ok(())
 }
 
@@ -204,7 +204,7 @@ pub fn step(
 {
     let values = out.first_chunk_mut::<4>().ok_or(Refusal::BadRows)?;
     let p = Place::new(face, i, j, k).step(GridLevel(level), substrate, edge)?;
-    *values = lent::numbers(p);
+    lent::put(values, 0, &lent::numbers(p));
     Ok(())
 }
 
@@ -223,13 +223,17 @@ pub fn cross(
 {
     let values = out.first_chunk_mut::<5>().ok_or(Refusal::BadRows)?;
     let l = Place::new(face, i, j, k).cross(GridLevel(level), substrate, turn)?;
-    *values = [
-        l.place.face,
-        l.place.i,
-        l.place.j,
-        l.place.k,
-        l.overage.number(),
-    ];
+    lent::put(
+        values,
+        0,
+        &[
+            l.place.face,
+            l.place.i,
+            l.place.j,
+            l.place.k,
+            l.overage.number(),
+        ],
+    );
     Ok(())
 }
 
@@ -247,13 +251,17 @@ pub fn settle(
 {
     let values = out.first_chunk_mut::<5>().ok_or(Refusal::BadRows)?;
     let s = Place::new(face, i, j, k).settle(GridLevel(level), substrate)?;
-    *values = [
-        u64::from(s.place.face),
-        u64::from(s.place.i),
-        u64::from(s.place.j),
-        u64::from(s.place.k),
-        s.steps,
-    ];
+    lent::put(
+        values,
+        0,
+        &[
+            u64::from(s.place.face),
+            u64::from(s.place.i),
+            u64::from(s.place.j),
+            u64::from(s.place.k),
+            s.steps,
+        ],
+    );
     Ok(())
 }
 
@@ -270,7 +278,7 @@ pub fn first_name(
 {
     let values = out.first_chunk_mut::<4>().ok_or(Refusal::BadRows)?;
     let p = names::first_name(Place::new(face, i, j, k), GridLevel(level))?;
-    *values = lent::numbers(p);
+    lent::put(values, 0, &lent::numbers(p));
     Ok(())
 }
 
@@ -292,6 +300,6 @@ pub fn same_corner(
     let values = out.first_chunk_mut::<1>().ok_or(Refusal::BadRows)?;
     let other = Place::new(other_face, other_i, other_j, other_k);
     let same = names::same_corner(Place::new(face, i, j, k), other, GridLevel(level))?;
-    *values = [u32::from(same)];
+    lent::put(values, 0, &[u32::from(same)]);
     Ok(())
 }

@@ -46,8 +46,8 @@ pub fn nearest(
         return Err(frame_or_rows(frame));
     };
     let n = vec3d::nearest_face(frame, Vec3d::new(x, y, z))?;
-    *nearest = [n.face];
-    *squared = [n.distance];
+    lent::put(nearest, 0, &[n.face]);
+    lent::put(squared, 0, &[n.distance]);
     Ok(())
 }
 
@@ -67,7 +67,7 @@ pub fn plane_point(
         return Err(frame_or_rows(frame));
     };
     let v = face_projection::plane_point(frame, face, CellLevel(level), Vec3d::new(x, y, z))?;
-    *values = [v.x, v.y];
+    lent::put(values, 0, &[v.x, v.y]);
     Ok(())
 }
 
@@ -91,8 +91,8 @@ pub fn place(
     };
     let found = locate::locate(frame, CellLevel(level), Vec3d::new(x, y, z))?;
     let l = found.left;
-    *place = lent::numbers(found.place);
-    *leftovers = [l.r1, l.r2];
+    lent::put(place, 0, &lent::numbers(found.place));
+    lent::put(leftovers, 0, &[l.r1, l.r2]);
     Ok(())
 }
 
@@ -111,6 +111,6 @@ pub fn batch(
         return Err(frame_or_rows(frame));
     };
     let n = locate::locate_all(frame, CellLevel(level), input, out, first)?;
-    *count = [n as u64];
+    lent::put(count, 0, &[n as u64]);
     Ok(())
 }

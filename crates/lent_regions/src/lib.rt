@@ -25,7 +25,7 @@ pub fn check(list: &[u8], out: &mut [u32]) -> Result<(), Refusal>
 {
     let values = out.first_chunk_mut::<2>().ok_or(Refusal::BadRows)?;
     let facts = region_check::check(list)?;
-    *values = [facts.level, facts.count];
+    lent::put(values, 0, &[facts.level, facts.count]);
     Ok(())
 }
 
@@ -35,7 +35,7 @@ pub fn record(list: &[u8], number: u32, out: &mut [u32]) -> Result<(), Refusal>
 {
     let values = out.first_chunk_mut::<4>().ok_or(Refusal::BadRows)?;
     let p = region::read(list, number as usize)?;
-    *values = lent::numbers(p);
+    lent::put(values, 0, &lent::numbers(p));
     Ok(())
 }
 
@@ -45,6 +45,6 @@ pub fn has(list: &[u8], face: u32, i: u32, j: u32, k: u32, out: &mut [u32]) -> R
 {
     let values = out.first_chunk_mut::<1>().ok_or(Refusal::BadRows)?;
     let listed = region::has(list, Place::new(face, i, j, k))?;
-    *values = [u32::from(listed)];
+    lent::put(values, 0, &[u32::from(listed)]);
     Ok(())
 }
