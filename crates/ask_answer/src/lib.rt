@@ -17,11 +17,15 @@ pub struct Answer {
     pub doubles: [f64; 36],
 }
 
-// Numbers of 32 bits as numbers of 64.
+// Numbers of 32 bits as numbers of 64. One by one: by the array's `map` each line of `ask` took 600 instructions more.
 fn widened(words: [u32; 25]) -> [u64; 25]
     ensures { result ≡ words }
 {
-    words.map(|n| u64::from(n))
+    let mut wide = [0u64; 25];
+    for v in 0..25 {
+        wide[v] = u64::from(words[v]);
+    }
+    wide
 }
 
 fn settled(n: [u32; 9]) -> Answer

@@ -1,7 +1,7 @@
 // Reads questions from standard input, a line each, to its end, and answers them in order on standard output, on the default frame.
 #![tactic(auto)]
 
-ghost use Rattle.std.specs.Prelude.{◌≤◌};
+ghost use Rattle.std.specs.Prelude.{◌≡◌, ◌≤◌, OnErr};
 
 use std::error::Error;
 use std::io::{Read, Write};
@@ -16,7 +16,9 @@ struct Held<const N: usize> {
 }
 
 impl<const N: usize> Held<N> {
-    fn new() -> Self {
+    fn new() -> Self
+        ensures { result.len ≡ 0 }
+    {
         Held {
             bytes: [0; N],
             len: 0,
@@ -27,7 +29,9 @@ impl<const N: usize> Held<N> {
         &self.bytes[..self.len]
     }
 
-    fn clear(&mut self) {
+    fn clear(&mut self)
+        ensures { self.new.len ≡ 0 }
+    {
         self.len = 0;
     }
 
@@ -63,51 +67,56 @@ impl Error for Failed {}
 
 // Each question with its form, an example line and what it answers: those on the plane and of faces, of places, of cells, of roots and of the sphere, and the help itself; then why a line is refused.
 const HELP: [&str; 25] = [
-    "round X Y -- round 0.5 -0.5 -- I J K R1 R2: the coordinates that a plane point rounds to, and what was left over",
-    "centre I J K -- centre 1 1 0 -- X Y: the plane point of coordinates",
-    "meet X Y X Y X Y X Y -- meet 0 0 2 2 0 2 2 0 -- X Y: the meeting of two lines, each through two points",
-    "direction FACE FACE -- direction 0 4 -- 0 the face itself, 1, 2, 3 over that edge, 7 any other",
-    "nearest X Y Z -- nearest 0 0 1 -- FACE D: the face nearest to a unit vector, and the squared distance",
-    "turn FACE I J K ccw|cw -- turn 0 1 0 0 ccw -- FACE I J K: the place turned by 60 degrees",
-    "step FACE LEVEL p|s I J K EDGE -- step 0 0 p 3 0 0 2 -- FACE I J K: the place carried over an edge",
-    "cross FACE LEVEL p|s I J K yes|no -- cross 0 0 p 3 0 0 no -- FACE I J K None|FaceEdge|NewFace: one crossing",
-    "settle FACE LEVEL p|s I J K -- settle 0 0 p 3 0 0 -- FACE I J K STEPS: crossings until the place rests",
-    "same LEVEL FACE I J K FACE I J K -- same 0 4 4 0 2 0 4 2 0 -- yes or no: whether two places are names of one corner",
-    "first FACE LEVEL I J K -- first 4 0 4 0 2 -- FACE I J K: the first name of a corner, that of its lowest face",
-    "place LEVEL X Y Z -- place 3 0 0 1 -- FACE I J K R1 R2: the place of a unit vector, and what was left over",
-    "corners FACE LEVEL I J K -- corners 0 0 1 0 0 -- LEVEL, then I J K of each of the six corners of a cell",
-    "hexagon FACE LEVEL I J K START LENGTH -- hexagon 0 1 1 0 0 0 6 -- COUNT, then FACE X Y corner|crossing of each point",
-    "pentagon FACE LEVEL I J K START LENGTH -- pentagon 0 1 6 0 2 0 5 -- COUNT, then FACE X Y corner|crossing of each point",
-    "root X -- root 2 -- R: the square root of a double",
-    "sphere FACE LEVEL X Y -- sphere 0 0 1 0 -- X Y Z: the unit vector of a plane point of a face",
-    "globe6 FACE LEVEL I J K START LENGTH -- globe6 0 1 1 0 0 0 6 -- COUNT, then FACE X Y Z corner|crossing of each point",
-    "globe5 FACE LEVEL I J K START LENGTH -- globe5 0 1 6 0 2 0 5 -- COUNT, then FACE X Y Z corner|crossing of each point",
-    "help -- help -- these lines",
-    "any question may be refused: refused NUMBER NAME, and the README says what each number means",
-    "a line is refused 14 BadLine if its first word is none of these, if a field is missing or one too many, or if two spaces stand together or one at either end",
-    "a number is refused if it has a sign, a leading zero, a letter, or is 4294967296 or more",
-    "a double (X, Y, Z) is the 16 hex digits of its bits, or a decimal such as 12, -0.5 or 0.1, which is rounded to the nearest double; it is refused if it has more than 15 digits, an exponent, a plus, a leading zero as 01 has, or no digit before or after its point",
-    "the words p, s, ccw, cw, yes and no are written just so",
+    "round X Y -- round 0.5 -0.5 -- I J K R1 R2: the coordinates that a plane point rounds to, and what was left over\n",
+    "centre I J K -- centre 1 1 0 -- X Y: the plane point of coordinates\n",
+    "meet X Y X Y X Y X Y -- meet 0 0 2 2 0 2 2 0 -- X Y: the meeting of two lines, each through two points\n",
+    "direction FACE FACE -- direction 0 4 -- 0 the face itself, 1, 2, 3 over that edge, 7 any other\n",
+    "nearest X Y Z -- nearest 0 0 1 -- FACE D: the face nearest to a unit vector, and the squared distance\n",
+    "turn FACE I J K ccw|cw -- turn 0 1 0 0 ccw -- FACE I J K: the place turned by 60 degrees\n",
+    "step FACE LEVEL p|s I J K EDGE -- step 0 0 p 3 0 0 2 -- FACE I J K: the place carried over an edge\n",
+    "cross FACE LEVEL p|s I J K yes|no -- cross 0 0 p 3 0 0 no -- FACE I J K None|FaceEdge|NewFace: one crossing\n",
+    "settle FACE LEVEL p|s I J K -- settle 0 0 p 3 0 0 -- FACE I J K STEPS: crossings until the place rests\n",
+    "same LEVEL FACE I J K FACE I J K -- same 0 4 4 0 2 0 4 2 0 -- yes or no: whether two places are names of one corner\n",
+    "first FACE LEVEL I J K -- first 4 0 4 0 2 -- FACE I J K: the first name of a corner, that of its lowest face\n",
+    "place LEVEL X Y Z -- place 3 0 0 1 -- FACE I J K R1 R2: the place of a unit vector, and what was left over\n",
+    "corners FACE LEVEL I J K -- corners 0 0 1 0 0 -- LEVEL, then I J K of each of the six corners of a cell\n",
+    "hexagon FACE LEVEL I J K START LENGTH -- hexagon 0 1 1 0 0 0 6 -- COUNT, then FACE X Y corner|crossing of each point\n",
+    "pentagon FACE LEVEL I J K START LENGTH -- pentagon 0 1 6 0 2 0 5 -- COUNT, then FACE X Y corner|crossing of each point\n",
+    "root X -- root 2 -- R: the square root of a double\n",
+    "sphere FACE LEVEL X Y -- sphere 0 0 1 0 -- X Y Z: the unit vector of a plane point of a face\n",
+    "globe6 FACE LEVEL I J K START LENGTH -- globe6 0 1 1 0 0 0 6 -- COUNT, then FACE X Y Z corner|crossing of each point\n",
+    "globe5 FACE LEVEL I J K START LENGTH -- globe5 0 1 6 0 2 0 5 -- COUNT, then FACE X Y Z corner|crossing of each point\n",
+    "help -- help -- these lines\n",
+    "any question may be refused: refused NUMBER NAME, and the README says what each number means\n",
+    "a line is refused 14 BadLine if its first word is none of these, if a field is missing or one too many, or if two spaces stand together or one at either end\n",
+    "a number is refused if it has a sign, a leading zero, a letter, or is 4294967296 or more\n",
+    "a double (X, Y, Z) is the 16 hex digits of its bits, or a decimal such as 12, -0.5 or 0.1, which is rounded to the nearest double; it is refused if it has more than 15 digits, an exponent, a plus, a leading zero as 01 has, or no digit before or after its point\n",
+    "the words p, s, ccw, cw, yes and no are written just so\n",
 ];
 
+// Each line is tried, whether or not those before it could be written.
 fn print_help(rt: &impl Print) -> io::Result<()> {
+    let mut said = Ok(());
     for line in HELP {
-        println!(rt; "{line}")?;
+        let written = io::writer(rt).write_all(line.as_bytes());
+        said = said.and(written);
     }
-    Ok(())
+    said
 }
 
-// Writes the answers that are held.
-fn hand_over(rt: &impl Print, answers: &mut Held<65536>) -> Result<(), Failed> {
-    io::writer(rt)
-        .write_all(answers.filled())
-        .map_err(|_| Failed::Writing)?;
+// Writes the answers that are held, and holds none from then on, written or not.
+fn hand_over(rt: &impl Print, answers: &mut Held<65536>) -> Result<(), Failed>
+    ensures { answers.new.len ≡ 0 }
+{
+    let written = io::writer(rt).write_all(answers.filled());
     answers.clear();
-    Ok(())
+    written.map_err(|_| Failed::Writing)
 }
 
 // The help has no answer's line: it is said at once, after what is held.
-fn help(rt: &impl Print, answers: &mut Held<65536>) -> Result<(), Failed> {
+fn help(rt: &impl Print, answers: &mut Held<65536>) -> Result<(), Failed>
+    ensures { answers.new.len ≡ 0 }
+{
     hand_over(rt, answers)?;
     print_help(rt).map_err(|_| Failed::Helping)
 }
@@ -118,7 +127,9 @@ fn answer(
     frame: &[f64],
     line: &[u8],
     answers: &mut Held<65536>,
-) -> Result<(), Failed> {
+) -> Result<(), Failed>
+    ensures { OnErr result (answers.new.len ≡ 0) }
+{
     if 65536 - answers.len < ask_write::LONGEST {
         hand_over(rt, answers)?;
     }
@@ -138,7 +149,10 @@ fn end_line(
     line: &mut Held<512>,
     bytes: &[u8],
     answers: &mut Held<65536>,
-) -> Result<(), Failed> {
+) -> Result<(), Failed>
+    ensures ended { line.new.len ≡ 0 }
+    ensures emptied { OnErr result (answers.new.len ≡ 0) }
+{
     if line.len == 0 {
         let n = ask_read::without_end(bytes, b'\r');
         return answer(rt, frame, &bytes[..n], answers);
@@ -146,9 +160,9 @@ fn end_line(
     line.fill(bytes);
     let all = line.filled();
     let n = ask_read::without_end(all, b'\r');
-    answer(rt, frame, &all[..n], answers)?;
+    let answered = answer(rt, frame, &all[..n], answers);
     line.clear();
-    Ok(())
+    answered
 }
 
 // Ends a line at each newline of bytes, and keeps what stands after the last one.
@@ -158,7 +172,9 @@ fn take_bytes(
     line: &mut Held<512>,
     bytes: &[u8],
     answers: &mut Held<65536>,
-) -> Result<(), Failed> {
+) -> Result<(), Failed>
+    ensures { OnErr result (answers.new.len ≡ 0) }
+{
     let mut rest = bytes;
     while let Some(end) = rest.iter().position(|b| *b == b'\n') {
         end_line(rt, frame, line, &rest[..end], answers)?;
@@ -175,7 +191,10 @@ fn take_all(
     line: &mut Held<512>,
     bytes: &mut [u8],
     answers: &mut Held<65536>,
-) -> Result<(), Failed> {
+) -> Result<(), Failed>
+    ensures { answers.new.len ≡ 0 }
+{
+    answers.clear();
     let mut input = rt.reader();
     for _turn in 0..u64::MAX {
         let n = match input.read(bytes) {
