@@ -1,5 +1,6 @@
 // Holds the default frame to document 01: it passes, each centre is nearest to its own face, and a point just over each edge lies on the neighbour
 // that the step over this edge leads to, in the hexagon that the step gives. So the neighbours, the i-axes and the step rule agree.
+// Where something cannot be written, the next is tried.
 #![tactic(auto)]
 
 ghost use Rattle.std.specs.Prelude.{◌<◌};
@@ -7,7 +8,7 @@ ghost use Rattle.std.specs.Prelude.{◌<◌};
 use faceijk::Place;
 use level::{CellLevel, GridLevel};
 use reply::Refusal;
-use std::{fmt, io};
+use std::fmt;
 use vec3d::Vec3d;
 
 const LEVEL: u32 = 4;
@@ -77,11 +78,11 @@ const OVER: [[f64; 3]; 60] = [
 ];
 
 // What an entry answers, or its refusal's number.
-fn show<T: fmt::Display + Drop>(rt: &impl Print, answer: Result<T, Refusal>) -> io::Result<()> {
-    match answer {
+fn show<T: fmt::Display + Drop>(rt: &impl Print, answer: Result<T, Refusal>) {
+    let _ = match answer {
         Ok(value) => print!(rt; " {value}"),
         Err(refusal) => print!(rt; " refused {}", refusal.number()),
-    }
+    };
 }
 
 // The place on the named face, beyond its edge, stepped over the edge.
@@ -91,26 +92,26 @@ fn step_over(frame: &[f64], face: u32, edge: u32, p: Vec3d) -> Result<Place, Ref
     Place::new(face, c.i, c.j, c.k).step(GridLevel(LEVEL), false, edge)
 }
 
-fn show_edge(rt: &impl Print, frame: &[f64], face: u32, edge: u32, p: Vec3d) -> io::Result<()> {
-    print!(rt; "face {face} edge {edge} nearest")?;
-    show(rt, vec3d::nearest_face(frame, p).map(|n| n.face))?;
-    print!(rt; " located")?;
+fn show_edge(rt: &impl Print, frame: &[f64], face: u32, edge: u32, p: Vec3d) {
+    let _ = print!(rt; "face {face} edge {edge} nearest");
+    show(rt, vec3d::nearest_face(frame, p).map(|n| n.face));
+    let _ = print!(rt; " located");
     show(
         rt,
         locate::locate(frame, CellLevel(LEVEL), p).map(|spot| spot.place),
-    )?;
-    print!(rt; " stepped")?;
-    show(rt, step_over(frame, face, edge, p))?;
-    println!(rt)
+    );
+    let _ = print!(rt; " stepped");
+    show(rt, step_over(frame, face, edge, p));
+    let _ = println!(rt);
 }
 
-fn show_centre(rt: &impl Print, frame: &[f64; 180], face: u32) -> io::Result<()>
+fn show_centre(rt: &impl Print, frame: &[f64; 180], face: u32)
     requires { face < 20 }
 {
-    print!(rt; "centre {face} nearest")?;
+    let _ = print!(rt; "centre {face} nearest");
     let centre = vec3d::face_at(frame, face).centre;
-    show(rt, vec3d::nearest_face(frame, centre).map(|n| n.face))?;
-    println!(rt)
+    show(rt, vec3d::nearest_face(frame, centre).map(|n| n.face));
+    let _ = println!(rt);
 }
 
 fn over_edge(face: u32, edge: u32) -> Vec3d
@@ -120,24 +121,23 @@ fn over_edge(face: u32, edge: u32) -> Vec3d
     Vec3d::new(x, y, z)
 }
 
-fn show_face(rt: &impl Print, frame: &[f64; 180], face: u32) -> io::Result<()>
+fn show_face(rt: &impl Print, frame: &[f64; 180], face: u32)
     requires { face < 20 }
 {
-    show_centre(rt, frame, face)?;
+    show_centre(rt, frame, face);
     for edge in 0..3 {
-        show_edge(rt, frame, face, edge + 1, over_edge(face, edge))?;
+        show_edge(rt, frame, face, edge + 1, over_edge(face, edge));
     }
-    Ok(())
 }
 
-fn main(rt: HostRuntime) -> io::Result<()> {
+fn main(rt: HostRuntime) {
     let frame = frame::default_frame();
     if vec3d::bad_frame(&frame) {
-        return println!(rt; "frame refused");
+        let _ = println!(rt; "frame refused");
+        return;
     }
-    println!(rt; "frame passes")?;
+    let _ = println!(rt; "frame passes");
     for face in 0..20 {
-        show_face(&rt, &frame, face)?;
+        show_face(&rt, &frame, face);
     }
-    Ok(())
 }

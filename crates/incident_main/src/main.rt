@@ -1,4 +1,5 @@
-// The incident by name: vectors that are no unit vectors, each alone and in the middle of a batch whose other rows are right.
+// The incident by name: vectors that are no unit vectors, each alone and in the middle of a batch whose other rows are right. Where
+// something cannot be written, the next is tried.
 #![tactic(auto)]
 
 ghost use Rattle.std.specs.Prelude.{◌<◌};
@@ -6,7 +7,6 @@ ghost use Rattle.std.specs.Prelude.{◌<◌};
 use level::CellLevel;
 use locate::Spot;
 use reply::Refusal;
-use std::io;
 use vec3d::Vec3d;
 
 const LEVEL: u32 = 9;
@@ -30,11 +30,11 @@ const ISABELA: [f64; 3] = [
 
 const SHORT: [f64; 3] = [-0.4214202674581045, -0.6729665838298882, 0.6062358742468724];
 
-fn show_located(rt: &impl Print, located: Result<Spot, Refusal>) -> io::Result<()> {
-    match located {
+fn show_located(rt: &impl Print, located: Result<Spot, Refusal>) {
+    let _ = match located {
         Ok(found) => println!(rt; "place {}", found.place),
         Err(refusal) => println!(rt; "refused {}", refusal.number()),
-    }
+    };
 }
 
 // The vectors of the incident stand between the right ones.
@@ -73,37 +73,35 @@ fn vectors() -> [f64; 27] {
     ]
 }
 
-fn each_alone(rt: &impl Print, frame: &[f64], input: &[f64; 27]) -> io::Result<()> {
+fn each_alone(rt: &impl Print, frame: &[f64], input: &[f64; 27]) {
     for k in 0..9 {
-        print!(rt; "alone {k} ")?;
+        let _ = print!(rt; "alone {k} ");
         let p = vec3d::vec_at(input, 3 * k);
-        show_located(rt, locate::locate(frame, CellLevel(LEVEL), p))?;
+        show_located(rt, locate::locate(frame, CellLevel(LEVEL), p));
     }
-    Ok(())
 }
 
-fn show_rows(rt: &impl Print, out: &[i32; 44]) -> io::Result<()> {
+fn show_rows(rt: &impl Print, out: &[i32; 44]) {
     for k in 0..11 {
-        println!(rt;
+        let _ = println!(rt;
             "row {k} {} {} {} {}",
             out[4 * k],
             out[4 * k + 1],
             out[4 * k + 2],
             out[4 * k + 3]
-        )?;
+        );
     }
-    Ok(())
 }
 
-fn main(rt: HostRuntime) -> io::Result<()> {
+fn main(rt: HostRuntime) {
     let frame = frame::default_frame();
     let input = vectors();
-    each_alone(&rt, &frame, &input)?;
+    each_alone(&rt, &frame, &input);
     // Eleven rows of sevens; the batch begins at row 1, so that rows 0 and 10 stay.
     let mut out = [7i32; 44];
-    match locate::locate_all(&frame, CellLevel(LEVEL), &input, &mut out, 1) {
-        Ok(refused) => println!(rt; "refused rows {refused}")?,
-        Err(refusal) => println!(rt; "batch refused {}", refusal.number())?,
-    }
-    show_rows(&rt, &out)
+    let _ = match locate::locate_all(&frame, CellLevel(LEVEL), &input, &mut out, 1) {
+        Ok(refused) => println!(rt; "refused rows {refused}"),
+        Err(refusal) => println!(rt; "batch refused {}", refusal.number()),
+    };
+    show_rows(&rt, &out);
 }

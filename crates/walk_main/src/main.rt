@@ -25,7 +25,7 @@ fn read_full(rt: &impl Input, buffer: &mut [u8]) -> usize
 fn main(rt: HostRuntime) {
     let mut input = [0u8; 64];
     let n = read_full(&rt, &mut input);
-    if walk_print::print_walk(&rt, &input[..n]).is_err() {
-        walk_print::complain(&rt);
+    if walk_print::print_walk(&input[..n]).is_err() {
+        walk_print::complain();
     }
 }

@@ -4,19 +4,26 @@
 ghost use Rattle.std.specs.Prelude.{◌≡◌, [], ◌++◌, IsOk};
 ghost use Rattle.walk.specs.Texts.{text_of};
 
-use std::io;
-use std::io::{Eprint, Write};
+use std::fmt;
 use walk::State;
 
+const STDOUT_FILENO: i32 = 1;
+
+const STDERR_FILENO: i32 = 2;
+
 // Writes the bytes that lead from one state to the next. The text is written here and nowhere else, since no contract can say what is written.
-fn hand_over(rt: &impl Print, from: State, next: State, bytes: &[u8]) -> io::Result<()>
+fn hand_over(from: State, next: State, bytes: &[u8]) -> fmt::Result
     requires { text_of from ≡ bytes.now ++ text_of next }
 {
-    io::writer(rt).write_all(bytes)
+    if io::write_all(STDOUT_FILENO, bytes) {
+        Ok(())
+    } else {
+        Err(fmt::Error)
+    }
 }
 
 // Where printing ends well: it is answered here and nowhere else, and only where nothing is left of the text.
-fn nothing_left(from: State) -> io::Result<()>
+fn nothing_left(from: State) -> fmt::Result
     requires { text_of from ≡ [] }
     ensures { IsOk result }
 {
@@ -24,24 +31,24 @@ fn nothing_left(from: State) -> io::Result<()>
 }
 
 // Prints the text of a state, a buffer at a time, up to the first write that fails.
-fn print_text(rt: &impl Print, state: State) -> io::Result<()> {
-    let mut buffer = [0u8; 4096];
+fn print_text(state: State) -> fmt::Result {
+    let mut buffer = [0u8; 65536];
     let mut from = state;
     let mut w = walk::write_lines(from, &mut buffer);
     while 0 < w.len {
-        hand_over(rt, from, w.state, &buffer[..w.len])?;
+        hand_over(from, w.state, &buffer[..w.len])?;
         from = w.state;
         w = walk::write_lines(from, &mut buffer);
     }
     nothing_left(from)
 }
 
-// Prints the walk that an input names, or its refusal.
-pub fn print_walk(rt: &impl Print, input: &[u8]) -> io::Result<()> {
-    print_text(rt, walk::begin(input))
+// Prints the walk that an input names, or its refusal. It asks its caller for no handle, so it writes by the kit's `io`.
+pub fn print_walk(input: &[u8]) -> fmt::Result {
+    print_text(walk::begin(input))
 }
 
 // Says on standard error that a write failed; where that fails too, nothing is left to say it to.
-pub fn complain(rt: &impl Eprint) {
-    let _ = eprintln!(rt; "walk: the output could not be written");
+pub fn complain() {
+    io::write_all(STDERR_FILENO, b"walk: the output could not be written\n");
 }

@@ -18,7 +18,7 @@ pub filled : {old buffer : List ℕ} {from : State} {w : Written} → 70 ≤ len
 filled h o = record { before = _; room = h; wrote = o }
 
 abbrev pub invariant-loop-w : goal.invariant-loop-w
-invariant-loop-w g l = Filled l.buffer l.from l.w
+invariant-loop-w l = Filled l.buffer l.from l.w
 
 abbrev pub decreases-loop-w : goal.decreases-loop-w
-decreases-loop-w g l = l.w.len + length (text_of l.w.state)
+decreases-loop-w l = l.w.len + length (text_of l.w.state)
