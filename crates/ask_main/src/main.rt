@@ -113,12 +113,13 @@ fn hand_over(rt: &impl Print, answers: &mut Held<65536>) -> Result<(), Failed>
     written.map_err(|_| Failed::Writing)
 }
 
-// The help has no answer's line: it is said at once, after what is held.
+// The help has no answer's line: it is said at once, after what is held, and tried even where that could not be written.
 fn help(rt: &impl Print, answers: &mut Held<65536>) -> Result<(), Failed>
     ensures { answers.new.len ≡ 0 }
 {
-    hand_over(rt, answers)?;
-    print_help(rt).map_err(|_| Failed::Helping)
+    let handed = hand_over(rt, answers);
+    let helped = print_help(rt).map_err(|_| Failed::Helping);
+    handed.and(helped)
 }
 
 // Answers a line into the buffer: what may leave too little room for any answer is written first.
