@@ -20,7 +20,8 @@ fn number_in(rows: &[i32], at: usize) -> u32
     requires { at < length rows.now }
     ensures { result ≡ number_in rows.now at }
 {
-    u32::try_from(rows[at]).unwrap_or(u32::MAX)
+    let x = rows[at];
+    if x < 0 { u32::MAX } else { x as u32 }
 }
 
 fn place_in(rows: &[i32], n: usize) -> Place
