@@ -4,7 +4,7 @@
 ghost use Rattle.std.specs.Prelude.{◌≡◌, ◌≤◌, OnErr};
 
 use std::error::Error;
-use std::io::{Read, Write};
+use std::io::{Eprint, Read, Write};
 use std::{fmt, io};
 
 // A buffer, and how many of its bytes are filled.
@@ -45,7 +45,7 @@ impl<const N: usize> Held<N> {
     }
 }
 
-// What failed. It is said, nothing more is read or answered, and the exit status stays 0, as it was.
+// What failed. It is said where it fails, nothing more is read or answered, and the exit status stays 0, as it was.
 #[derive(Clone, Copy, Debug, PartialEq, Eq, Drop)]
 enum Failed {
     Reading,
@@ -64,6 +64,12 @@ impl fmt::Display for Failed {
 }
 
 impl Error for Failed {}
+
+// Says what failed; where that fails too, nothing is left to say it to.
+fn complain(rt: &impl Eprint, failed: Failed) -> Failed {
+    let _ = eprintln!(rt; "ask: {failed}");
+    failed
+}
 
 // Each question with its form, an example line and what it answers: those on the plane and of faces, of places, of cells, of roots and of the sphere, and the help itself; then why a line is refused.
 const HELP: [&str; 25] = [
@@ -105,47 +111,59 @@ fn print_help(rt: &impl Print) -> io::Result<()> {
 }
 
 // Writes the answers that are held, and holds none from then on, written or not.
-fn hand_over(rt: &impl Print, answers: &mut Held<65536>) -> Result<(), Failed>
+fn hand_over(rt: &(impl Print + Eprint), answers: &mut Held<65536>) -> Result<(), Failed>
     ensures { answers.new.len ≡ 0 }
 {
     let written = io::writer(rt).write_all(answers.filled());
     answers.clear();
-    written.map_err(|_| Failed::Writing)
+    match written {
+        Ok(()) => Ok(()),
+        Err(_) => Err(complain(rt, Failed::Writing)),
+    }
 }
 
 // The help has no answer's line: it is said at once, after what is held, and tried even where that could not be written.
-fn help(rt: &impl Print, answers: &mut Held<65536>) -> Result<(), Failed>
+fn help(rt: &(impl Print + Eprint), answers: &mut Held<65536>) -> Result<(), Failed>
     ensures { answers.new.len ≡ 0 }
 {
     let handed = hand_over(rt, answers);
-    let helped = print_help(rt).map_err(|_| Failed::Helping);
-    handed.and(helped)
+    let helped = print_help(rt);
+    handed?;
+    match helped {
+        Ok(()) => Ok(()),
+        Err(_) => Err(complain(rt, Failed::Helping)),
+    }
 }
 
-// Answers a line into the buffer: what may leave too little room for any answer is written first.
+// Answers a line into the buffer: what may leave too little room for any answer is written first. Where it could not be, no answer is held, but the help is tried.
 fn answer(
-    rt: &impl Print,
+    rt: &(impl Print + Eprint),
     frame: &[f64],
     line: &[u8],
     answers: &mut Held<65536>,
 ) -> Result<(), Failed>
     ensures { OnErr result (answers.new.len ≡ 0) }
 {
+    let mut handed = Ok(());
     if 65536 - answers.len < ask_write::LONGEST {
-        hand_over(rt, answers)?;
+        handed = hand_over(rt, answers);
     }
     let at = answers.len;
     let n = ask_write::reply_to(frame, line, &mut answers.bytes[at..]);
-    if n == 0 {
+    if (n == 0) & handed.is_ok() {
         return help(rt, answers);
     }
+    if n == 0 {
+        let _ = print_help(rt);
+    }
+    handed?;
     answers.len = at + n;
     Ok(())
 }
 
 // Takes the last bytes of a line, up to its newline, of which a carriage return is a part. A line that fills its buffer is longer than any good one.
 fn end_line(
-    rt: &impl Print,
+    rt: &(impl Print + Eprint),
     frame: &[f64],
     line: &mut Held<512>,
     bytes: &[u8],
@@ -168,7 +186,7 @@ fn end_line(
 
 // Ends a line at each newline of bytes, and keeps what stands after the last one.
 fn take_bytes(
-    rt: &impl Print,
+    rt: &(impl Print + Eprint),
     frame: &[f64],
     line: &mut Held<512>,
     bytes: &[u8],
@@ -187,7 +205,7 @@ fn take_bytes(
 
 // Takes the whole input, and writes its answers before more is read, so that a person sees them at once. A proved loop has to end and no input has to, so the turns are as many as no run uses up.
 fn take_all(
-    rt: &(impl Input + Print),
+    rt: &(impl Input + Print + Eprint),
     frame: &[f64],
     line: &mut Held<512>,
     bytes: &mut [u8],
@@ -200,7 +218,7 @@ fn take_all(
     for _turn in 0..u64::MAX {
         let n = match input.read(bytes) {
             Ok(n) => n,
-            Err(_) => return Err(Failed::Reading),
+            Err(_) => return Err(complain(rt, Failed::Reading)),
         };
         if n == 0 {
             break;
@@ -212,7 +230,7 @@ fn take_all(
 }
 
 // What follows the last newline is a line too, unless nothing does.
-fn answer_all(rt: &(impl Input + Print)) -> Result<(), Failed> {
+fn answer_all(rt: &(impl Input + Print + Eprint)) -> Result<(), Failed> {
     let frame = frame::default_frame();
     let mut line = Held::<512>::new();
     let mut bytes = [0u8; 65536];
@@ -226,7 +244,5 @@ fn answer_all(rt: &(impl Input + Print)) -> Result<(), Failed> {
 }
 
 fn main(rt: HostRuntime) {
-    if let Err(failed) = answer_all(&rt) {
-        let _ = eprintln!(&rt; "ask: {failed}");
-    }
+    let _ = answer_all(&rt);
 }
