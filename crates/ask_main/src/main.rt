@@ -1,7 +1,7 @@
 // Reads questions from standard input, a line each, to its end, and answers them in order on standard output, on the default frame.
 #![tactic(auto)]
 
-ghost use Rattle.std.specs.Prelude.{◌≡◌, ◌≤◌, OnErr};
+ghost use Rattle.std.specs.Prelude.{◌≡◌, ◌≤◌, ◌+◌, ◌-◌, ◌++◌, length, take, min, OnErr};
 
 use std::error::Error;
 use std::io::{Eprint, Read, Write};
@@ -25,7 +25,9 @@ impl<const N: usize> Held<N> {
         }
     }
 
-    fn filled(&self) -> &[u8] {
+    fn filled(&self) -> &[u8]
+        ensures { result.now ≡ take self.now.len self.now.bytes }
+    {
         &self.bytes[..self.len]
     }
 
@@ -36,7 +38,10 @@ impl<const N: usize> Held<N> {
     }
 
     // Keeps as many of the bytes as there is room for.
-    fn fill(&mut self, more: &[u8]) {
+    fn fill(&mut self, more: &[u8])
+        ensures how_many { self.new.len ≡ min (self.old.len + length more.now) N }
+        ensures which { take self.new.len self.new.bytes ≡ take self.old.len self.old.bytes ++ take (N - self.old.len) more.now }
+    {
         let at = self.len;
         let n = more.len().min(N - at);
         let all = &mut self.bytes[..];
